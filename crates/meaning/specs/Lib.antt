@@ -1,0 +1,4 @@
+pub mod Picture
+pub mod Rule
+pub mod Form
+pub mod Solving

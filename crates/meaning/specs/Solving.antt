@@ -1,0 +1,45 @@
+-- What the solver's steps do, in the words of forms. No call of a session cites these: they stand between its contracts and the solver's code.
+-- Assumes nothing.
+use mathlib.Core.Path.{_≡_}
+use mathlib.Core.Logic.{_≢_, _↔_}
+use mathlib.Core.Bool.{cond}
+use mathlib.Core.List.{List, [], _∷_, _++_, map}
+use Prim.Native.Nat.{ℕ, zero, suc, _+_, _*_, _<_, _≤_}
+use lib.ListN.{getD}
+use lib.Dec.{eqb}
+use Rattle.kinds.specs.Kinds.{Under}
+use Rattle.meaning.specs.declared.Tie.{Tie}
+use Rattle.meaning.specs.Picture.{Picture, Placing, Fact, All, rename}
+use Rattle.meaning.specs.Picture.Fact.{has-kind, same, leads}
+use Rattle.meaning.specs.Rule.{Rule}
+use Rattle.meaning.specs.Form.{Form, unknown, Smallest, Well}
+
+-- the numbers of a fact are in range: joints below v, kinds below n, links below 16
+abbrev pub InRange : ℕ → ℕ → Fact ℕ → Type 0
+InRange n v (has-kind a s) = (a < v) × (s < n)
+InRange n v (same a b) = (a < v) × (b < v)
+InRange n v (leads a l c) = (a < v) × (l < 16) × (c < v)
+
+abbrev pub AllInRange : ℕ → ℕ → List (Fact ℕ) → Type 0
+AllInRange n v [] = Unit {0}
+AllInRange n v (f ∷ fs) = InRange n v f × AllInRange n v fs
+
+-- what the facts of a form say, joint by joint
+pub record Models {n : ℕ} (meet : ℕ → ℕ → ℕ) (v : ℕ) (S : Form) (P : Picture n) (σ : ℕ → ℕ) : Type 0 where
+  pub one : (j : ℕ) → j < v → σ j ≡ σ (S .class j)
+  pub kind : (j : ℕ) → Smallest v S j → Under meet (P .kind (σ j)) (S .kind j)
+  pub link : (j l : ℕ) → Smallest v S j → l < 16 → S .link j l ≢ unknown → P .link (σ j) l ≡ σ (S .link j l)
+
+-- T is what S becomes when the facts are taken
+pub record Taken (n : ℕ) (meet : ℕ → ℕ → ℕ) (v : ℕ) (S : Form) (fs : List (Fact ℕ)) (T : Form) : Type 0 where
+  pub well : Well n v T
+  pub means : (P : Picture n) (σ : ℕ → ℕ) → Placing P σ → Models meet v T P σ ↔ (Models meet v S P σ × All meet P σ fs)
+
+-- no picture satisfies S and the facts
+abbrev pub Refuted : (n : ℕ) → (ℕ → ℕ → ℕ) → ℕ → Form → List (Fact ℕ) → Type 0
+Refuted n meet v S fs = (P : Picture n) (σ : ℕ → ℕ) → Placing P σ → Models meet v S P σ → All meet P σ fs → ⊥
+
+-- how many of the joints below k are their class's smallest
+unfoldable pub classes : Form → ℕ → ℕ
+classes S zero = 0
+classes S (suc k) = cond (eqb (S .class k) k) (suc (classes S k)) (classes S k)

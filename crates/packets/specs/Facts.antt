@@ -1,0 +1,56 @@
+-- What a packet says: its facts, and for a rule its ties.
+-- Assumes nothing.
+use mathlib.Core.Bool.{cond}
+use mathlib.Core.List.{List, [], _∷_}
+use Prim.Native.Nat.{ℕ, zero, suc, _+_, _*_}
+use lib.Dec.{eqb}
+use Rattle.meaning.specs.declared.RigJoint.{RigJoint}
+use Rattle.meaning.specs.declared.RuleJoint.{RuleJoint}
+use Rattle.meaning.specs.declared.Tie.{Tie}
+use Rattle.meaning.specs.declared.RigFact.{RigFact}
+use Rattle.meaning.specs.declared.RigFact.the-variants as rig-fact
+use Rattle.meaning.specs.declared.RuleFact.{RuleFact}
+use Rattle.meaning.specs.declared.RuleFact.the-variants as rule-fact
+use Rattle.meaning.specs.Picture.{Fact}
+use Rattle.meaning.specs.Picture.Fact.{has-kind, same, leads}
+use Rattle.meaning.specs.Rule.{Rule, ruleJoint}
+use Rattle.meaning.specs.Form.{rigJoint}
+use Rattle.packets.specs.Packet.{byte, ties, joints, tieAt, factAt, factCount}
+
+-- the fact at a byte: 1, a, kind, 0 or 2, a, b, 0 or 3, a, link, c, where `joint` makes a joint of its number
+unfoldable pub factOf : {J : Type 0} → (ℕ → J) → List ℕ → ℕ → Fact J
+factOf joint p at =
+    cond (eqb (byte p at) 1) (has-kind (joint (byte p (at + 1))) (byte p (at + 2)))
+    (cond (eqb (byte p at) 2) (same (joint (byte p (at + 1))) (joint (byte p (at + 2))))
+    (leads (joint (byte p (at + 1))) (byte p (at + 2)) (joint (byte p (at + 3)))))
+
+-- f at the numbers from i on, count of them
+unfoldable pub each : {A : Type 0} → (ℕ → A) → ℕ → ℕ → List A
+each f i zero = []
+each f i (suc count) = f i ∷ each f (suc i) count
+
+abbrev pub factsOf : {J : Type 0} → (ℕ → J) → List ℕ → List (Fact J)
+factsOf joint p = each (λ i. factOf joint p (factAt p i)) 0 (factCount p)
+
+-- the facts of a packet for taking
+abbrev pub rigFacts : List ℕ → List (Fact RigJoint)
+rigFacts p = factsOf rigJoint p
+
+-- a tie: rule joint, rig joint
+abbrev pub tieOf : List ℕ → ℕ → Tie
+tieOf p at = record { rule = ruleJoint (byte p at); rig = rigJoint (byte p (at + 1)) }
+
+-- the rule of a packet for asking
+abbrev pub ruleOf : List ℕ → Rule
+ruleOf p = record { joints = joints p; ties = each (λ i. tieOf p (tieAt i)) 0 (ties p); facts = factsOf ruleJoint p }
+
+-- the facts that the code's own enums stand for
+abbrev pub rigFact : RigFact → Fact RigJoint
+rigFact (rig-fact.Kind a s) = has-kind a s
+rigFact (rig-fact.Same a b) = same a b
+rigFact (rig-fact.Link a l c) = leads a l c
+
+abbrev pub ruleFact : RuleFact → Fact RuleJoint
+ruleFact (rule-fact.Kind a s) = has-kind a s
+ruleFact (rule-fact.Same a b) = same a b
+ruleFact (rule-fact.Link a l c) = leads a l c

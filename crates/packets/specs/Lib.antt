@@ -1,0 +1,2 @@
+pub mod Packet
+pub mod Facts
