@@ -1,0 +1,70 @@
+-- `tables::check` meets its contract: the four parts of the order, each looked at where those before it refuse nothing.
+-- Assumes nothing.
+use mathlib.Core.Path.{_∙_, sym}
+use mathlib.Core.List.{_++_}
+use Rattle.tables.specs.Check.{entries, firsts, pairs, triples}
+use Rattle.tables.proofs.Scan.{first-of, second-of, tested}
+use Rattle.tables.proofs.Lawfulness.{passes-kept, kept-entries}
+use borrow.Author.Needs.{needs}
+use Rattle.tables.proofs.check.Statement.{statement}
+use Rattle.tables.proofs.check.Tie as tie
+
+first-entry-requires : tie.Need-first-entry-requires
+first-entry-requires c κs = search needs
+
+is-refusal-requires : tie.Need-is-refusal-requires
+is-refusal-requires c κs = search needs
+
+returns : tie.Need-returns
+returns c = c .before .before .first-entry .ensures ∙ sym (first-of _ _ (entries _) _ (tested (c .before .before .first-entry .ensures) (c .before .is-refusal .ensures) (c .if1 .taken)))
+
+first-single-requires : tie.Need-first-single-requires
+first-single-requires c κs = let p = c .before .before .before .before .pre in
+    (p, kept-entries _ _ .0 (passes-kept _ _ (entries _) (tested (c .before .before .first-entry .ensures) (c .before .is-refusal .ensures) (c .if1 .left))))
+
+is-refusal-requires-2 : tie.Need-is-refusal-requires-2
+is-refusal-requires-2 c κs = search needs
+
+returns-2 : tie.Need-returns-2
+returns-2 c = c .before .before .first-single .ensures
+    ∙ sym (second-of _ _ (entries _) _ (tested (c .before .before .before .before .before .first-entry .ensures) (c .before .before .before .before .is-refusal .ensures) (c .before .before .before .if1 .left))
+    ∙ first-of _ _ (firsts _) _ (tested (c .before .before .first-single .ensures) (c .before .is-refusal2 .ensures) (c .if2 .taken)))
+
+first-pair-requires : tie.Need-first-pair-requires
+first-pair-requires c κs = let p = c .before .before .before .before .before .before .before .pre in
+    (p, kept-entries _ _ .0 (passes-kept _ _ (entries _) (tested (c .before .before .before .before .before .first-entry .ensures) (c .before .before .before .before .is-refusal .ensures) (c .before .before .before .if1 .left))))
+
+is-refusal-requires-3 : tie.Need-is-refusal-requires-3
+is-refusal-requires-3 c κs = search needs
+
+returns-3 : tie.Need-returns-3
+returns-3 c = c .before .before .first-pair .ensures
+    ∙ sym (second-of _ _ (entries _) _ (tested (c .before .before .before .before .before .before .before .before .first-entry .ensures) (c .before .before .before .before .before .before .before .is-refusal .ensures) (c .before .before .before .before .before .before .if1 .left))
+    ∙ second-of _ _ (firsts _) _ (tested (c .before .before .before .before .before .first-single .ensures) (c .before .before .before .before .is-refusal2 .ensures) (c .before .before .before .if2 .left))
+    ∙ first-of _ _ (pairs _) _ (tested (c .before .before .first-pair .ensures) (c .before .is-refusal3 .ensures) (c .if3 .taken)))
+
+first-triple-requires : tie.Need-first-triple-requires
+first-triple-requires c κs = let p = c .before .before .before .before .before .before .before .before .before .before .pre in
+    (p, kept-entries _ _ .0 (passes-kept _ _ (entries _) (tested (c .before .before .before .before .before .before .before .before .first-entry .ensures) (c .before .before .before .before .before .before .before .is-refusal .ensures) (c .before .before .before .before .before .before .if1 .left))))
+
+returns-4 : tie.Need-returns-4
+returns-4 c = c .first-triple .ensures
+    ∙ sym (second-of _ _ (entries _) _ (tested (c .before .before .before .before .before .before .before .before .before .first-entry .ensures) (c .before .before .before .before .before .before .before .before .is-refusal .ensures) (c .before .before .before .before .before .before .before .if1 .left))
+    ∙ second-of _ _ (firsts _) _ (tested (c .before .before .before .before .before .before .first-single .ensures) (c .before .before .before .before .before .is-refusal2 .ensures) (c .before .before .before .before .if2 .left))
+    ∙ second-of _ _ (pairs _) _ (tested (c .before .before .before .first-pair .ensures) (c .before .before .is-refusal3 .ensures) (c .before .if3 .left)))
+
+pub check-spec : {M : Type 1} → statement M
+check-spec =
+    tie.close
+    (tie.spec
+    first-entry-requires
+    is-refusal-requires
+    returns
+    first-single-requires
+    is-refusal-requires-2
+    returns-2
+    first-pair-requires
+    is-refusal-requires-3
+    returns-3
+    first-triple-requires
+    returns-4)
