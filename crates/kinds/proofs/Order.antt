@@ -4,7 +4,7 @@
 use mathlib.Core.Path.{_≡_, _∙_, sym, ap}
 use Prim.Native.Nat.{ℕ, _<_}
 use native.Mathlib.Omega.{arith}
-use Rattle.kinds.specs.Kinds.{Lawful, Under}
+use Rattle.kinds.specs.Kinds.{Lawful, Under, Greatest}
 
 module _ {n : ℕ} {meet : ℕ → ℕ → ℕ} (L : Lawful n meet) where
   pub under-refl : (i : ℕ) → i < n → Under meet i i
@@ -33,13 +33,6 @@ module _ {n : ℕ} {meet : ℕ → ℕ → ℕ} (L : Lawful n meet) where
 
   pub meet-greatest : (k i j : ℕ) → k < n → i < n → j < n → Under meet k i → Under meet k j → Under meet k (meet i j)
   meet-greatest k i j hk hi hj p q = cc (L .group k i j hk hi hj)
-
--- m is the greatest of the kinds below n that are under both i and j, by an order R
-pub record Greatest (n : ℕ) (R : ℕ → ℕ → Type 0) (i j m : ℕ) : Type 0 where
-  pub kind : m < n
-  pub left : R m i
-  pub right : R m j
-  pub most : (k : ℕ) → k < n → R k i → R k j → R k m
 
 -- a partial order of the kinds below n, with 0 below and 1 above all
 pub record Ordered (n : ℕ) (R : ℕ → ℕ → Type 0) : Type 0 where

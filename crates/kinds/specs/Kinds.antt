@@ -21,3 +21,10 @@ pub record Lawful (n : ℕ) (meet : ℕ → ℕ → ℕ) : Type 0 where
   pub any : (i : ℕ) → i < n → meet 1 i ≡ i
   pub swap : (i j : ℕ) → i < n → j < n → meet i j ≡ meet j i
   pub group : (i j k : ℕ) → i < n → j < n → k < n → meet (meet i j) k ≡ meet i (meet j k)
+
+-- m is the greatest of the kinds below n that are under both i and j, by an order R
+pub record Greatest (n : ℕ) (R : ℕ → ℕ → Type 0) (i j m : ℕ) : Type 0 where
+  pub kind : m < n
+  pub left : R m i
+  pub right : R m j
+  pub most : (k : ℕ) → k < n → R k i → R k j → R k m

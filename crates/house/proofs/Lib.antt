@@ -1,0 +1,4 @@
+pub mod Tests
+pub mod Descent
+pub mod Rule
+pub mod Examples
