@@ -1,0 +1,4 @@
+pub mod Facts
+pub mod Canon
+pub mod Unique
+pub mod Takes
