@@ -14,7 +14,7 @@ use Rattle.meaning.specs.declared.RuleJoint.{RuleJoint}
 use Rattle.meaning.specs.declared.Tie.{Tie}
 use Rattle.meaning.specs.Picture.{Picture, Element, Placing, Fact, All, rename}
 use Rattle.meaning.specs.Picture.Fact.{has-kind, same, leads}
-use Rattle.meaning.specs.Rule.{Rule, Agree, Found, Applies}
+use Rattle.meaning.specs.Rule.{Rule, Agree, Found, Applies, RuledOut}
 use Rattle.meaning.specs.Form.{Form, unknown, Smallest, Well, factsOf, rigJoint, takenFacts}
 use Rattle.meaning.specs.Solving.{AllInRange, Models}
 use Rattle.meaning.specs.Asking.{TiesInRange, RuleInRange, ruleNumber}
@@ -25,6 +25,13 @@ pub record Map {n : ℕ} (meet : ℕ → ℕ → ℕ) (P Q : Picture n) (h : ℕ
   pub element : (e : ℕ) → Element P e → Element Q (h e)
   pub kind : (e : ℕ) → Element P e → Under meet (Q .kind (h e)) (P .kind e)
   pub link : (e l : ℕ) → l < 16 → Element P e → Element P (P .link e l) → Q .link (h e) l ≡ h (P .link e l)
+
+-- ties look at rig joints below v only
+pub agree-along : (h : ℕ → ℕ) (v : ℕ) (σ ρ : RigJoint → ℕ) → ((j : RigJoint) → j .0 < v → ρ j ≡ h (σ j)) →
+    (k : ℕ) (τ : RuleJoint → ℕ) (ts : List Tie) → TiesInRange v k ts → Agree σ τ ts → Agree ρ (λ u. h (τ u)) ts
+agree-along h v σ ρ along k τ [] ir a = tt
+agree-along h v σ ρ along k τ (t ∷ ts) ir a =
+    (ap h (a .0) ∙ sym (along (t .rig) (ir .0 .1)), agree-along h v σ ρ along k τ ts (ir .1) (a .1))
 
 module _ {n : ℕ} {meet : ℕ → ℕ → ℕ} (L : Lawful n meet) (P Q : Picture n) (h : ℕ → ℕ) (m : Map meet P Q h) where
   -- facts whose numbers are in range go along a map
@@ -41,20 +48,16 @@ module _ {n : ℕ} {meet : ℕ → ℕ → ℕ} (L : Lawful n meet) (P Q : Pictu
     map-all number v τ placed fs (ir .1) (a .1),
   )
 
-  -- and so do rules that are found: σ and ρ are the rig's placings
-  module _ (v : ℕ) (σ ρ : RigJoint → ℕ) (along : (j : RigJoint) → j .0 < v → ρ j ≡ h (σ j)) where
-    agree-along : (k : ℕ) (τ : RuleJoint → ℕ) (ts : List Tie) → TiesInRange v k ts → Agree σ τ ts → Agree ρ (λ u. h (τ u)) ts
-    agree-along k τ [] ir a = tt
-    agree-along k τ (t ∷ ts) ir a = (ap h (a .0) ∙ sym (along (t .rig) (ir .0 .1)), agree-along k τ ts (ir .1) (a .1))
-
-    pub map-found : (r : Rule) → RuleInRange n v r → Found meet P σ r → Found meet Q ρ r
-    map-found r ir f =
-        record {
-          τ = λ u. h (f .τ u);
-          placed = λ u. m .element (f .τ u) (f .placed u);
-          agree = agree-along (r .joints) (f .τ) (r .ties) (ir .ties) (f .agree);
-          holds = map-all ruleNumber (r .joints) (f .τ) (f .placed) (r .facts) (ir .facts) (f .holds);
-        }
+  -- and so do rules that are found
+  pub map-found : (v : ℕ) (σ ρ : RigJoint → ℕ) → ((j : RigJoint) → j .0 < v → ρ j ≡ h (σ j)) →
+      (r : Rule) → RuleInRange n v r → Found meet P σ r → Found meet Q ρ r
+  map-found v σ ρ along r ir f =
+      record {
+        τ = λ u. h (f .τ u);
+        placed = λ u. m .element (f .τ u) (f .placed u);
+        agree = agree-along h v σ ρ along (r .joints) (f .τ) (r .ties) (ir .ties) (f .agree);
+        holds = map-all ruleNumber (r .joints) (f .τ) (f .placed) (r .facts) (ir .facts) (f .holds);
+      }
 
 -- each rig joint at its class
 abbrev pub atClass : Form → RigJoint → ℕ
@@ -128,3 +131,7 @@ module _ {n : ℕ} {meet : ℕ → ℕ → ℕ} (L : Lawful n meet) (two : 1 < n
         let m : Models meet v S P (byNumber σ) = taken→models L two v S P σ a in
         map-found L (canon pos w) P (byNumber σ) (initial L pos w small P (byNumber σ) (λ j. placed (rigJoint j)) m)
         v (atClass S) σ (λ j. m .one (j .0)) r ir f
+
+    -- no rule both applies and is ruled out
+    pub applies-not-ruled-out : Counts (canon pos w) → Applies meet Counts (takenFacts v S) r → RuledOut meet Counts (takenFacts v S) r → ⊥
+    applies-not-ruled-out counts f o = o (canon pos w) (atClass S) counts (canon-rig-placing pos w) canon-taken (applies-canon counts f)

@@ -51,7 +51,8 @@ module _ {n : ℕ} {J : Type 0} (meet : ℕ → ℕ → ℕ) (P : Picture n) (σ
   use-rest true f fs a = a
   use-rest false f fs a = a .1
 
-keep : {A B C : Type 0} → (B ↔ C) → (A × B) ↔ (A × C)
+-- a first part stays as it is
+pub keep : {A B C : Type 0} → (B ↔ C) → (A × B) ↔ (A × C)
 keep e = (λ p. (p .0, e .0 (p .1)), λ p. (p .0, e .1 (p .1)))
 
 -- renamed facts say at a placing what the facts say at the placing of the renamed joints

@@ -1,12 +1,11 @@
 -- Taking: no facts, facts in turns, and that a form which was taken is satisfiable, by its own picture. In the words of the session, on rig
 -- joints: a taken form means the taken facts and the new ones together, and a refuted one is a clash.
 -- Assumes nothing.
-use mathlib.Core.Logic.{_↔_}
 use mathlib.Core.List.{List, [], _++_, map}
 use Prim.Native.Nat.{ℕ, _<_}
 use Rattle.kinds.specs.Kinds.{Lawful}
 use Rattle.meaning.specs.declared.RigJoint.{RigJoint}
-use Rattle.meaning.specs.Picture.{Picture, Placing, Fact, All, rename, Clash, SameMeaning, Every}
+use Rattle.meaning.specs.Picture.{Picture, Fact, All, rename, Clash, SameMeaning, Every}
 use Rattle.meaning.specs.Form.{Form, Well, rigJoint, takenFacts}
 use Rattle.meaning.specs.Solving.{Models, Taken, Refuted}
 use Rattle.meaning.proofs.Facts.{byNumber, all-append, all-left, all-right, all-rename, models→taken, taken→models}
@@ -71,7 +70,8 @@ module _ {n : ℕ} {meet : ℕ → ℕ → ℕ} (L : Lawful n meet) (two : 1 < n
       (models→taken L two v S P σ m)
       (all-rename meet P rigNumber (byNumber σ) fs .0 a)
 
-  pub taken-means : {T : Form} → Taken n meet v S (map (rename rigNumber) fs) T → SameMeaning {n = n} meet Every (takenFacts v T) (takenFacts v S ++ fs)
+  pub taken-means : {T : Form} → Taken n meet v S (map (rename rigNumber) fs) T →
+      SameMeaning {n = n} meet Every (takenFacts v T) (takenFacts v S ++ fs)
   taken-means {T} t P σ _ placed = (
     λ a.
         let m : Models meet v S P (byNumber σ) × All meet P (byNumber σ) (map (rename rigNumber) fs) =

@@ -22,7 +22,9 @@ pub record SameForm (S T : Form) : Type 0 where
   pub kind : (j : ℕ) → S .kind j ≡ T .kind j
   pub link : (j l : ℕ) → l < 16 → S .link j l ≡ T .link j l
 
-module _ {n : ℕ} {meet : ℕ → ℕ → ℕ} {v : ℕ} (pos : 0 < v) {S T : Form} (s : Well n v S) (t : Well n v T) (m : Models meet v T (canon pos s) (S .class)) where
+module _
+    {n : ℕ} {meet : ℕ → ℕ → ℕ} {v : ℕ} (pos : 0 < v) {S T : Form} (s : Well n v S) (t : Well n v T)
+    (m : Models meet v T (canon pos s) (S .class)) where
   -- the picture of S satisfies T: what this gives of T
   half-class : (j : ℕ) → j < v → S .class j ≤ T .class j
   half-class j h = omega (arith, m .one j h, s .class-le (T .class j) (omega (arith, t .class-le j h)))
