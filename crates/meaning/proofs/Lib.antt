@@ -4,3 +4,4 @@ pub mod Unique
 pub mod Takes
 pub mod Extend
 pub mod Asked
+pub mod Later
