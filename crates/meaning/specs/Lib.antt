@@ -2,3 +2,4 @@ pub mod Picture
 pub mod Rule
 pub mod Form
 pub mod Solving
+pub mod Asking
