@@ -1,0 +1,4 @@
+pub mod Block
+pub mod Open
+pub mod Take
+pub mod Write
