@@ -1,0 +1,167 @@
+// The solver: one fact more, and all that follows from it, or a clash.
+ghost use mathlib.Core.Path.{_≡_};
+ghost use mathlib.Core.Logic.{_≢_};
+ghost use mathlib.Core.List.{[], _∷_};
+ghost use Prim.Native.Nat.{ℕ, _+_, _-_, _*_, _<_, _≤_};
+ghost use lib.ListN.{getD, length};
+ghost use Rattle.kinds.specs.Kinds.{meetAt};
+ghost use Rattle.meaning.specs.Picture.Fact.{has-kind, same, leads};
+ghost use Rattle.meaning.specs.Solving.{InRange, classes};
+ghost use Rattle.solver.specs.Unpacked.{formOf, nodeFact, Ready, Took};
+ghost use Rattle.solver.specs.Steps.{
+  renumber,
+  knownOf,
+  bothKnown,
+  Renumbered,
+  RowOf,
+  RowPut,
+  Joined,
+  InOrder,
+  Pushed,
+  JoinReady,
+  JoinStep,
+};
+
+// The unpacked solved form of up to 96 nodes: the rig's joints first, then those of a rule.
+pub struct Solved {
+    pub class: [u8; 96],
+    pub kind: [u8; 96],
+    // One row of 16 links for each node; 255 is a link not known.
+    pub link: [u8; 1536],
+}
+
+// A fact on nodes: a kind, an equality, or a numbered link.
+pub enum NodeFact {
+    Kind(u8, u8),
+    Same(u8, u8),
+    Link(u8, u8, u8),
+}
+
+// The next form, or a clash. (An enum may not hold an array, hence the flag beside it.)
+pub struct Next {
+    pub ok: bool,
+    pub form: Solved,
+}
+
+// b becomes a, any other number stays.
+fn renumbered(x: u8, b: u8, a: u8) -> u8
+    ensures { λ r. ⌜ r ≡ renumber b a x ⌝ }
+{
+    if x == b { a } else { x }
+}
+
+// Every b in s becomes a.
+fn renumber_all(s: &mut [u8], b: u8, a: u8)
+    ensures { λ u. ⌜ Renumbered (now (s .entry)) b a (now (s .exit)) ⌝ }
+{
+    let mut i = 0;
+    while i < s.len() {
+        s[i] = renumbered(s[i], b, a);
+        i += 1;
+    }
+}
+
+// The row of node j.
+fn row_of(link: &[u8; 1536], j: usize) -> [u8; 16]
+    requires { ⌜ j < 96 ⌝ }
+    ensures { λ r. ⌜ RowOf (now (link .entry)) j r ⌝ }
+{
+    let mut row = [0u8; 16];
+    let base = j * 16;
+    let mut l = 0;
+    while l < 16 {
+        row[l] = link[base + l];
+        l += 1;
+    }
+    row
+}
+
+// The row of node j becomes row.
+fn put_row(link: &mut [u8], j: usize, row: [u8; 16])
+    requires { ⌜ (j < 96) × (length (now link) ≡ 1536) ⌝ }
+    ensures { λ u. ⌜ RowPut (now (link .entry)) j row (now (link .exit)) ⌝ }
+{
+    let base = j * 16;
+    let mut l = 0;
+    while l < 16 {
+        link[base + l] = row[l];
+        l += 1;
+    }
+}
+
+// Of two links the one that is known, the first where both are.
+fn known_of(x: u8, y: u8) -> u8
+    ensures { λ r. ⌜ r ≡ knownOf x y ⌝ }
+{
+    if x == 255 { y } else { x }
+}
+
+// The row of a class made of two: each link that one of them knows.
+fn merged(x: [u8; 16], y: [u8; 16]) -> [u8; 16]
+    ensures { λ r. ⌜ ((l : ℕ) → l < 16 → getD r l 0 ≡ knownOf (getD x l 0) (getD y l 0)) ⌝ }
+{
+    let mut row = [0u8; 16];
+    let mut l = 0;
+    while l < 16 {
+        row[l] = known_of(x[l], y[l]);
+        l += 1;
+    }
+    row
+}
+
+// 1 where both links are known, else 0.
+fn both_known(x: u8, y: u8) -> usize
+    ensures { λ r. ⌜ (r ≡ bothKnown x y) × (r ≤ 1) ⌝ }
+{
+    if x == 255 {
+        return 0;
+    }
+    if y == 255 { 0 } else { 1 }
+}
+
+// Where both rows know a link, its two ends are a new pair. The new number of pairs.
+// Each pair is written in any case, and the next one over it where it does not count.
+fn pushed(x: [u8; 16], y: [u8; 16], left: &mut [u8], right: &mut [u8], size: usize) -> usize
+    requires { ⌜ (size + 16 ≤ length (now left)) × (size + 16 ≤ length (now right)) ⌝ }
+    ensures { λ r. ⌜ Pushed 16 (λ l. getD x l 0) (λ l. getD y l 0) (now (left .entry)) (now (right .entry)) size (now (left .exit)) (now (right .exit)) r ⌝ }
+{
+    let mut count = size;
+    let mut l = 0;
+    while l < 16 {
+        left[count] = x[l];
+        right[count] = y[l];
+        count += both_known(x[l], y[l]);
+        l += 1;
+    }
+    count
+}
+
+struct Two(u8, u8);
+
+// Two different numbers, the smaller first.
+fn in_order(a: u8, b: u8) -> Two
+    requires { ⌜ a ≢ b ⌝ }
+    ensures { λ r. ⌜ InOrder a b (r .0) (r .1) ⌝ }
+{
+    if a < b { Two(a, b) } else { Two(b, a) }
+}
+
+// The form with the class of b joined to that of a, which has kind k from then on.
+fn joined(form: Solved, a: u8, b: u8, k: u8) -> Solved
+    requires { ⌜ (a < b) × (b < 96) ⌝ }
+    ensures { λ r. ⌜ Joined (formOf form) a b k (formOf r) ⌝ }
+{
+    let mut class = form.class;
+    let mut kind = form.kind;
+    let mut link = form.link;
+    let x = row_of(&link, a as usize);
+    let y = row_of(&link, b as usize);
+    let row = merged(x, y);
+    put_row(&mut link, a as usize, row);
+    put_row(&mut link, b as usize, [0u8; 16]);
+    renumber_all(&mut link, b, a);
+    renumber_all(&mut class, b, a);
+    kind[a as usize] = k;
+    kind[b as usize] = 0;
+    Solved { class, kind, link }
+}
