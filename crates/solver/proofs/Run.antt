@@ -229,8 +229,14 @@ module _ {n v : ℕ} {table : List ℕ} {S₀ : Form} (d : Ready n v table S₀)
   abbrev y : ℕ
   y = getD right (size - 1) 0
 
-  pub last-inside : (x < v) × (y < v)
+  last-inside : (x < v) × (y < v)
   last-inside = r .inside (size - 1) (omega arith)
+
+  pub last-nodes : (x < 96) × (y < 96)
+  last-nodes = (omega (arith, last-inside .0, d .nodes), omega (arith, last-inside .1, d .nodes))
+
+  pub last-room : size + 15 ≤ 1552
+  last-room = omega (arith, r .room, d .nodes)
 
   -- the pairs but the last, and the last, are all
   pairs-all : (σ : ℕ → ℕ) → Pairs left right (size - 1) σ → σ x ≡ σ y → Pairs left right size σ

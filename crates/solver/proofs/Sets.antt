@@ -93,6 +93,16 @@ module _ {n : ℕ} {meet : ℕ → ℕ → ℕ} {v : ℕ} {S : Form} (L : Lawful
       (under-none L _ (omega arith) (P .in-range _)
       (rw none at (meet-greatest L _ _ _ (P .in-range _) in-a hs (m .kind a (class-of w x hx)) (rw (m .one x hx) at (f .0)))))
 
+-- where two nodes have one class, that they are one is no news
+pub same-already :
+    {n : ℕ} {meet : ℕ → ℕ → ℕ} {v : ℕ} {S : Form} → Well n v S → {x y : ℕ} → x < v → y < v → S .class x ≡ S .class y
+    → Taken n meet v S (same x y ∷ []) S
+same-already w {x} {y} hx hy e =
+    record {
+      well = w;
+      means = λ P σ placed. (λ m. (m, (m .one x hx ∙ ap σ e ∙ sym (m .one y hy), tt)), λ m. m .0);
+    }
+
 -- the place (j, k) is (a, l), or another
 place : {C : Type 0} (a l j k : ℕ) → (j ≡ a → k ≡ l → C) → ((j ≡ a → k ≡ l → ⊥) → C) → C
 place a l j k f g =

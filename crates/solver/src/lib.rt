@@ -165,3 +165,146 @@ fn joined(form: Solved, a: u8, b: u8, k: u8) -> Solved
     kind[b as usize] = 0;
     Solved { class, kind, link }
 }
+
+// What joining two classes makes: the form and the new number of pairs, or a clash.
+struct Step {
+    ok: bool,
+    form: Solved,
+    size: usize,
+}
+
+// The last pair is taken off, the classes low and high are joined, and the ends of the links known in both are new pairs;
+// or the two kinds have nothing in common.
+fn join_step(
+    form: Solved,
+    table: &[u8],
+    n: usize,
+    low: u8,
+    high: u8,
+    left: &mut [u8],
+    right: &mut [u8],
+    size: usize,
+) -> Step
+    requires { ⌜ JoinReady n (now table) (formOf form) low high (now left) (now right) size ⌝ }
+    ensures { λ r. ⌜ JoinStep (meetAt n (now (table .entry))) (formOf form) low high (now (left .entry)) (now (right .entry)) (size - 1) (r .ok) (formOf (r .form)) (now (left .exit)) (now (right .exit)) (r .size) ⌝ }
+{
+    let i = form.kind[low as usize];
+    let j = form.kind[high as usize];
+    let k = kinds::meet(table, n, i as usize, j as usize);
+    if k == 0 {
+        return Step {
+            ok: false,
+            form,
+            size,
+        };
+    }
+    let link = form.link;
+    let x = row_of(&link, low as usize);
+    let y = row_of(&link, high as usize);
+    let count = pushed(x, y, left, right, size - 1);
+    let next = joined(form, low, high, k);
+    Step {
+        ok: true,
+        form: next,
+        size: count,
+    }
+}
+
+impl Solved {
+    // x and y made one, and all that follows from it: the pairs still to be made one wait in two lists. A join adds at most 16
+    // pairs and leaves one class less, so that 16 × 97 places are enough.
+    fn settled(self, table: &[u8], n: usize, v: usize, x: u8, y: u8) -> Next
+        requires { ⌜ Ready n v (now table) (formOf self) × (x < v) × (y < v) ⌝ }
+        ensures { λ r. ⌜ Took n (meetAt n (now (table .entry))) v (formOf self) (same x y ∷ []) (r .ok) (formOf (r .form)) ⌝ }
+    {
+        let mut left = [0u8; 1552];
+        let mut right = [0u8; 1552];
+        left[0] = x;
+        right[0] = y;
+        let mut size = 1;
+        let mut form = self;
+        while 0 < size {
+            let p = left[size - 1];
+            let q = right[size - 1];
+            let a = form.class[p as usize];
+            let b = form.class[q as usize];
+            if a == b {
+                size -= 1;
+            } else {
+                let o = in_order(a, b);
+                let s = join_step(form, table, n, o.0, o.1, &mut left, &mut right, size);
+                if !s.ok {
+                    return Next {
+                        ok: false,
+                        form: self,
+                    };
+                }
+                form = s.form;
+                size = s.size;
+            }
+        }
+        Next { ok: true, form }
+    }
+
+    // x and y made one. Most often they are one already, and then no list is made.
+    fn with_same(self, table: &[u8], n: usize, v: usize, x: u8, y: u8) -> Next
+        requires { ⌜ Ready n v (now table) (formOf self) × (x < v) × (y < v) ⌝ }
+        ensures { λ r. ⌜ Took n (meetAt n (now (table .entry))) v (formOf self) (same x y ∷ []) (r .ok) (formOf (r .form)) ⌝ }
+    {
+        if self.class[x as usize] == self.class[y as usize] {
+            return Next {
+                ok: true,
+                form: self,
+            };
+        }
+        self.settled(table, n, v, x, y)
+    }
+
+    // The kind of x's class met with s; a clash where they have nothing in common.
+    fn with_kind(self, table: &[u8], n: usize, v: usize, x: u8, s: u8) -> Next
+        requires { ⌜ Ready n v (now table) (formOf self) × (x < v) × (s < n) ⌝ }
+        ensures { λ r. ⌜ Took n (meetAt n (now (table .entry))) v (formOf self) (has-kind x s ∷ []) (r .ok) (formOf (r .form)) ⌝ }
+    {
+        let a = self.class[x as usize];
+        let known = self.kind[a as usize];
+        let k = kinds::meet(table, n, known as usize, s as usize);
+        if k == 0 {
+            return Next {
+                ok: false,
+                form: self,
+            };
+        }
+        let mut form = self;
+        form.kind[a as usize] = k;
+        Next { ok: true, form }
+    }
+
+    // Link l of x's class leads to y's class; where it is known already, its end and y are made one.
+    fn with_link(self, table: &[u8], n: usize, v: usize, x: u8, l: u8, y: u8) -> Next
+        requires { ⌜ Ready n v (now table) (formOf self) × (x < v) × (l < 16) × (y < v) ⌝ }
+        ensures { λ r. ⌜ Took n (meetAt n (now (table .entry))) v (formOf self) (leads x l y ∷ []) (r .ok) (formOf (r .form)) ⌝ }
+    {
+        let a = self.class[x as usize];
+        let at = a as usize * 16 + l as usize;
+        let end = self.link[at];
+        if end != 255 {
+            return self.with_same(table, n, v, end, y);
+        }
+        let c = self.class[y as usize];
+        let mut form = self;
+        form.link[at] = c;
+        Next { ok: true, form }
+    }
+
+    // The form with one fact more and all that follows from it, or a clash.
+    pub fn with_fact(self, table: &[u8], n: usize, v: usize, fact: NodeFact) -> Next
+        requires { ⌜ Ready n v (now table) (formOf self) × InRange n v (nodeFact fact) ⌝ }
+        ensures { λ r. ⌜ Took n (meetAt n (now (table .entry))) v (formOf self) (nodeFact fact ∷ []) (r .ok) (formOf (r .form)) ⌝ }
+    {
+        match fact {
+            NodeFact::Kind(x, s) => self.with_kind(table, n, v, x, s),
+            NodeFact::Same(x, y) => self.with_same(table, n, v, x, y),
+            NodeFact::Link(x, l, y) => self.with_link(table, n, v, x, l, y),
+        }
+    }
+}
