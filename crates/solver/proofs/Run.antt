@@ -16,7 +16,7 @@ use Rattle.meaning.specs.Picture.Fact.{same}
 use Rattle.meaning.specs.Form.{Form, unknown, Smallest, Well}
 use Rattle.meaning.specs.Solving.{Models, Taken, Refuted, classes}
 use Rattle.solver.specs.Unpacked.{Ready}
-use Rattle.solver.specs.Steps.{bothKnown, InOrder, Pairs, Running, Pushed, JoinReady, JoinDone}
+use Rattle.solver.specs.Steps.{bothKnown, smallestCount, InOrder, Pairs, Running, Pushed, JoinReady, JoinDone}
 use Rattle.solver.proofs.Join.{
   Joining,
   EndsAgree,
@@ -33,22 +33,26 @@ use Rattle.solver.proofs.Join.{
 }
 use Rattle.solver.proofs.Sets.{end-inside}
 
--- one class more or none, as the definition counts
-pub classes-smallest : (S : Form) (k : ℕ) → S .class k ≡ k → classes S (suc k) ≡ suc (classes S k)
+pub classes-none : (S : Form) → classes S 0 ≡ 0
 unfolding classes
-classes-smallest S k e = rw (eq-eqb _ _ e)
+classes-none S = refl
 
-pub classes-other : (S : Form) (k : ℕ) → S .class k ≢ k → classes S (suc k) ≡ classes S k
+pub classes-more : (S : Form) (k : ℕ) → classes S (k + 1) ≡ classes S k + smallestCount (S .class k) k
 unfolding classes
-classes-other S k d = rw (ne-eqb _ _ d)
+classes-more S k =
+    let e : k + 1 ≡ suc k = omega arith in
+    rw e
+    (by-cases (ℕ-discrete (S .class k) k)
+    (λ q. rw (eq-eqb _ _ q) (omega arith))
+    (λ d. rw (ne-eqb _ _ d) (omega arith)))
 
 pub classes-le : (S : Form) (k : ℕ) → classes S k ≤ k
 unfolding classes
 classes-le S zero = omega arith
 classes-le S (suc k) =
     by-cases (ℕ-discrete (S .class k) k)
-    (λ e. omega (arith, classes-le S k, classes-smallest S k e))
-    (λ d. omega (arith, classes-le S k, classes-other S k d))
+    (λ e. rw (eq-eqb _ _ e) (omega (arith, classes-le S k)))
+    (λ d. rw (ne-eqb _ _ d) (omega (arith, classes-le S k)))
 
 -- the count goes by which nodes are smallest
 classes-same : (S T : Form) (k : ℕ) → ((j : ℕ) → j < k → (S .class j ≡ j) ↔ (T .class j ≡ j)) → classes T k ≡ classes S k

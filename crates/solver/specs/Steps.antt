@@ -24,6 +24,10 @@ knownOf x y = cond (eqb x unknown) y x
 abbrev pub bothKnown : ℕ → ℕ → ℕ
 bothKnown x y = cond (eqb x unknown) 0 (cond (eqb y unknown) 0 1)
 
+-- 1 where the class number x is j itself, else 0
+abbrev pub smallestCount : ℕ → ℕ → ℕ
+smallestCount x j = cond (eqb x j) 1 0
+
 -- t is s with number b become a
 pub record Renumbered (s : List ℕ) (b a : ℕ) (t : List ℕ) : Type 0 where
   pub size : length t ≡ length s
@@ -65,8 +69,8 @@ pub record LinkSet (S : Form) (a l c : ℕ) (T : Form) : Type 0 where
 
 -- two different numbers, the smaller first
 pub record InOrder (a b low high : ℕ) : Type 0 where
-  pub which : ((low ≡ a) × (high ≡ b)) ⊎ ((low ≡ b) × (high ≡ a))
   pub less : low < high
+  pub which : ((low ≡ a) × (high ≡ b)) ⊎ ((low ≡ b) × (high ≡ a))
 
 -- the first size pairs hold: left and right have one element
 abbrev pub Pairs : List ℕ → List ℕ → ℕ → (ℕ → ℕ) → Type 0

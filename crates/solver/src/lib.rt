@@ -8,19 +8,8 @@ ghost use Rattle.kinds.specs.Kinds.{meetAt};
 ghost use Rattle.meaning.specs.Picture.Fact.{has-kind, same, leads};
 ghost use Rattle.meaning.specs.Solving.{InRange, classes};
 ghost use Rattle.solver.specs.Unpacked.{formOf, nodeFact, Ready, Took};
-ghost use Rattle.solver.specs.Steps.{
-  renumber,
-  knownOf,
-  bothKnown,
-  Renumbered,
-  RowOf,
-  RowPut,
-  Joined,
-  InOrder,
-  Pushed,
-  JoinReady,
-  JoinStep,
-};
+ghost use Rattle.solver.specs.Steps.{renumber, knownOf, bothKnown, smallestCount, InOrder};
+ghost use Rattle.solver.specs.Steps.{Renumbered, RowOf, RowPut, Joined, Pushed, JoinReady, JoinStep};
 
 // The unpacked solved form of up to 96 nodes: the rig's joints first, then those of a rule.
 pub struct Solved {
@@ -267,15 +256,15 @@ impl Solved {
     {
         let a = self.class[x as usize];
         let known = self.kind[a as usize];
-        let k = kinds::meet(table, n, known as usize, s as usize);
-        if k == 0 {
+        let met = kinds::meet(table, n, known as usize, s as usize);
+        if met == 0 {
             return Next {
                 ok: false,
                 form: self,
             };
         }
         let mut form = self;
-        form.kind[a as usize] = k;
+        form.kind[a as usize] = met;
         Next { ok: true, form }
     }
 
@@ -307,4 +296,25 @@ impl Solved {
             NodeFact::Link(x, l, y) => self.with_link(table, n, v, x, l, y),
         }
     }
+}
+
+// 1 where the class number x is j itself, else 0.
+fn is_smallest(x: u8, j: usize) -> usize
+    ensures { λ r. ⌜ (r ≡ smallestCount x j) × (r ≤ 1) ⌝ }
+{
+    if x as usize == j { 1 } else { 0 }
+}
+
+// How many classes the nodes below v make.
+pub fn classes_in(form: Solved, v: usize) -> usize
+    requires { ⌜ v ≤ 96 ⌝ }
+    ensures { λ r. ⌜ r ≡ classes (formOf form) v ⌝ }
+{
+    let mut count = 0;
+    let mut j = 0;
+    while j < v {
+        count += is_smallest(form.class[j], j);
+        j += 1;
+    }
+    count
 }

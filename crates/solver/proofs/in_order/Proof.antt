@@ -7,10 +7,10 @@ use Rattle.solver.proofs.in_order.Statement.{statement}
 use Rattle.solver.proofs.in_order.Tie as tie
 
 returns : tie.Need-returns
-returns c = record { which = inl (refl, refl); less = omega arith }
+returns c = record { less = omega arith; which = inl (refl, refl) }
 
 returns-2 : tie.Need-returns-2
-returns-2 c = record { which = inr (refl, refl); less = omega arith }
+returns-2 c = record { less = omega arith; which = inr (refl, refl) }
 
 pub in-order-spec : {M : Type 1} → statement M
 in-order-spec = tie.close (tie.spec returns returns-2)
