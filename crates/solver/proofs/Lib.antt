@@ -1,0 +1,6 @@
+pub mod Fill
+pub mod Join
+pub mod Sets
+pub mod Run
+pub mod Takes
+pub mod Parts

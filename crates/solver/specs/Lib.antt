@@ -1,0 +1,2 @@
+pub mod Unpacked
+pub mod Steps

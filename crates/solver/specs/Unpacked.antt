@@ -1,0 +1,43 @@
+-- The unpacked solved form of the code as a form, and what taking facts makes of it.
+-- Assumes nothing.
+use mathlib.Core.Path.{_≡_}
+use mathlib.Core.Bool.{Bool, true, false}
+use mathlib.Core.List.{List}
+use Prim.Native.Nat.{ℕ, _+_, _*_, _<_, _≤_}
+use lib.ListN.{length, getD}
+use Rattle.kinds.specs.Kinds.{Lawful, meetAt}
+use Rattle.meaning.specs.Picture.{Fact}
+use Rattle.meaning.specs.Picture.Fact.{has-kind, same, leads}
+use Rattle.meaning.specs.Form.{Form, Well}
+use Rattle.meaning.specs.Solving.{Taken, Refuted}
+use Rattle.solver.specs.declared.Solved.{Solved}
+use Rattle.solver.specs.declared.NodeFact.{NodeFact}
+use Rattle.solver.specs.declared.NodeFact.the-variants.{Kind, Same, Link}
+
+-- the form that lists of class numbers, kinds and links make, one row of 16 links for each node
+abbrev pub listForm : List ℕ → List ℕ → List ℕ → Form
+listForm class kind link =
+    record { class = λ j. getD class j 0; kind = λ j. getD kind j 0; link = λ j l. getD link (j * 16 + l) 0 }
+
+abbrev pub formOf : Solved → Form
+formOf s = listForm (s .class) (s .kind) (s .link)
+
+-- the fact that the code's enum stands for
+abbrev pub nodeFact : NodeFact → Fact ℕ
+nodeFact (Kind a s) = has-kind a s
+nodeFact (Same a b) = same a b
+nodeFact (Link a l c) = leads a l c
+
+-- a lawful table of n kinds, and a well-formed form of v nodes
+pub record Ready (n v : ℕ) (table : List ℕ) (S : Form) : Type 0 where
+  pub two : 1 < n
+  pub kinds : n ≤ 64
+  pub size : length table ≡ n * n
+  pub lawful : Lawful n (meetAt n table)
+  pub nodes : v ≤ 96
+  pub well : Well n v S
+
+-- T is what S becomes when the facts are taken, or else no picture satisfies S and the facts
+pub record Took (n : ℕ) (meet : ℕ → ℕ → ℕ) (v : ℕ) (S : Form) (fs : List (Fact ℕ)) (ok : Bool) (T : Form) : Type 0 where
+  pub taken : ok ≡ true → Taken n meet v S fs T
+  pub refuted : ok ≡ false → Refuted n meet v S fs
