@@ -1,19 +1,15 @@
--- The stores of `joined`, `with_kind` and `with_link`, put together: each makes the form that its step names. Then the two answers of a
--- function that takes facts.
+-- The stores of `joined`, `with_kind` and `with_link`, put together: each makes the form that its step names.
 -- Assumes nothing.
 use mathlib.Core.Path.{_≡_, refl, sym, _∙_, ap, ap₂}
 use mathlib.Core.Logic.{_≢_, by-cases}
-use mathlib.Core.Bool.{true, false, true≢false, false≢true}
 use mathlib.Core.List.{List}
-use Prim.Native.Nat.{ℕ, _+_, _*_, _<_, _≤_}
+use Prim.Native.Nat.{ℕ, _+_, _*_, _<_}
 use native.Mathlib.Omega.{arith}
-use native.Mathlib.Decide.{ℕ-discrete, decLt}
+use native.Mathlib.Decide.{decLt}
 use lib.ListN.{getD, length, set, length-set, List·getD-eq-default}
 use lib.Seq.{getD-set-same, getD-set-other}
-use Rattle.meaning.specs.Picture.{Fact}
 use Rattle.meaning.specs.Form.{Form}
-use Rattle.meaning.specs.Solving.{Taken, Refuted}
-use Rattle.solver.specs.Unpacked.{listForm, Ready, Took}
+use Rattle.solver.specs.Unpacked.{listForm, Ready}
 use Rattle.solver.specs.Steps.{renumber, knownOf, Renumbered, RowOf, RowPut, Joined, KindSet, LinkSet}
 use Rattle.solver.proofs.Join.{renumber-miss, class-of}
 
@@ -80,10 +76,3 @@ link-parts class kind link a l c size ha hl =
 -- class numbers are nodes
 pub class-inside : {n v : ℕ} {table : List ℕ} {S : Form} → Ready n v table S → (j : ℕ) → j < v → S .class j < 96
 class-inside d j h = omega (arith, class-of (d .well) j h .0, d .nodes)
-
-module _ {n : ℕ} {meet : ℕ → ℕ → ℕ} {v : ℕ} {S : Form} (fs : List (Fact ℕ)) (T : Form) where
-  pub took-taken : Taken n meet v S fs T → Took n meet v S fs true T
-  took-taken t = record { taken = λ _. t; refuted = λ e. absurd (true≢false e) }
-
-  pub took-refuted : Refuted n meet v S fs → Took n meet v S fs false T
-  took-refuted c = record { taken = λ e. absurd (false≢true e); refuted = λ _. c }

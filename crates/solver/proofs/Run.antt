@@ -223,7 +223,10 @@ module _ {n : ℕ} {meet : ℕ → ℕ → ℕ} {v : ℕ} {S₀ : Form} {fs : Li
       }
 
 -- One turn: the last pair.
-module _ {n v : ℕ} {table : List ℕ} {S₀ : Form} (d : Ready n v table S₀) {fs : List (Fact ℕ)} {S : Form} {left right : List ℕ} {size : ℕ} (r : Running n (meetAt n table) v S₀ fs S left right size) (some : 0 < size) where
+module _
+    {n v : ℕ} {table : List ℕ} {S₀ : Form} (d : Ready n v table S₀)
+    {fs : List (Fact ℕ)} {S : Form} {left right : List ℕ} {size : ℕ} (r : Running n (meetAt n table) v S₀ fs S left right size)
+    (some : 0 < size) where
   abbrev meet : ℕ → ℕ → ℕ
   meet = meetAt n table
 

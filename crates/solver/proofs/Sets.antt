@@ -1,7 +1,7 @@
 -- A kind lowered at its class, and a link made known at its class: each is the fact taken. Where the link is known already, the fact
 -- says that its end and the new one are one.
 -- Assumes nothing.
-use mathlib.Core.Path.{_≡_, refl, sym, _∙_, ap}
+use mathlib.Core.Path.{_≡_, sym, _∙_, ap}
 use mathlib.Core.Logic.{_≢_, _⊎_, inl, inr, by-cases, ⊎-elim}
 use mathlib.Core.List.{[], _∷_}
 use Prim.Native.Nat.{ℕ, _<_, _≤_}
@@ -108,8 +108,12 @@ place : {C : Type 0} (a l j k : ℕ) → (j ≡ a → k ≡ l → C) → ((j ≡
 place a l j k f g =
     by-cases (ℕ-discrete j a) (λ p. by-cases (ℕ-discrete k l) (λ q. f p q) (λ d. g (λ _ q. d q))) (λ d. g (λ p _. d p))
 
-module _ {n : ℕ} {meet : ℕ → ℕ → ℕ} {v : ℕ} {S : Form} (small : v ≤ unknown) (w : Well n v S) {x l y : ℕ} (hx : x < v) (hl : l < 16) (hy : y < v) where
-  pub link-taken : {T : Form} → S .link (S .class x) l ≡ unknown → LinkSet S (S .class x) l (S .class y) T → Taken n meet v S (leads x l y ∷ []) T
+module _
+    {n : ℕ} {meet : ℕ → ℕ → ℕ} {v : ℕ} {S : Form} (small : v ≤ unknown) (w : Well n v S)
+    {x l y : ℕ} (hx : x < v) (hl : l < 16) (hy : y < v) where
+  pub link-taken :
+      {T : Form} → S .link (S .class x) l ≡ unknown → LinkSet S (S .class x) l (S .class y) T
+      → Taken n meet v S (leads x l y ∷ []) T
   link-taken {T} free t =
       record {
         well =
@@ -164,7 +168,9 @@ module _ {n : ℕ} {meet : ℕ → ℕ → ℕ} {v : ℕ} {S : Form} (small : v 
 pub end-inside : {n v : ℕ} {S : Form} → Well n v S → {j l : ℕ} → Smallest v S j → l < 16 → S .link j l ≢ unknown → S .link j l < v
 end-inside w {j} {l} h hl known = ⊎-elim (λ u. absurd (known u)) (λ g. g .0) (w .link-smallest j l h hl)
 
-module _ {n : ℕ} {meet : ℕ → ℕ → ℕ} {v : ℕ} {S : Form} (w : Well n v S) {x l : ℕ} (hx : x < v) (hl : l < 16) (known : S .link (S .class x) l ≢ unknown) where
+module _
+    {n : ℕ} {meet : ℕ → ℕ → ℕ} {v : ℕ} {S : Form} (w : Well n v S)
+    {x l : ℕ} (hx : x < v) (hl : l < 16) (known : S .link (S .class x) l ≢ unknown) where
   -- where the link is known it leads to its end
   end-is : (P : Picture n) (σ : ℕ → ℕ) → Models meet v S P σ → P .link (σ x) l ≡ σ (S .link (S .class x) l)
   end-is P σ m = rw (m .one x hx) (m .link (S .class x) l (class-of w x hx) hl known)

@@ -77,7 +77,9 @@ abbrev pub Pairs : List ℕ → List ℕ → ℕ → (ℕ → ℕ) → Type 0
 Pairs left right size σ = (i : ℕ) → i < size → σ (getD left i 0) ≡ σ (getD right i 0)
 
 -- S with the pairs means what S₀ with the facts does. There is room for 16 pairs more at each of the joins that are still possible.
-pub record Running (n : ℕ) (meet : ℕ → ℕ → ℕ) (v : ℕ) (S₀ : Form) (fs : List (Fact ℕ)) (S : Form) (left right : List ℕ) (size : ℕ) : Type 0 where
+pub record Running
+    (n : ℕ) (meet : ℕ → ℕ → ℕ) (v : ℕ) (S₀ : Form) (fs : List (Fact ℕ)) (S : Form) (left right : List ℕ) (size : ℕ)
+    : Type 0 where
   pub well : Well n v S
   pub inside : (i : ℕ) → i < size → (getD left i 0 < v) × (getD right i 0 < v)
   pub room : size + 16 * classes S v ≤ 16 * v + 1
@@ -110,12 +112,17 @@ pub record JoinReady (n : ℕ) (table : List ℕ) (S : Form) (low high : ℕ) (l
   pub room-right : size + 15 ≤ length right
 
 -- the two classes joined, and the ends of the links known in both pushed
-pub record JoinDone (meet : ℕ → ℕ → ℕ) (S : Form) (low high : ℕ) (left right : List ℕ) (size : ℕ) (T : Form) (left' right' : List ℕ) (size' : ℕ) : Type 0 where
+pub record JoinDone
+    (meet : ℕ → ℕ → ℕ) (S : Form) (low high : ℕ) (left right : List ℕ) (size : ℕ) (T : Form) (left' right' : List ℕ) (size' : ℕ)
+    : Type 0 where
   pub some : meet (S .kind low) (S .kind high) ≢ 0
   pub joined : Joined S low high (meet (S .kind low) (S .kind high)) T
   pub pushed : Pushed 16 (S .link low) (S .link high) left right size left' right' size'
 
 -- ... or their kinds have nothing in common
-pub record JoinStep (meet : ℕ → ℕ → ℕ) (S : Form) (low high : ℕ) (left right : List ℕ) (size : ℕ) (ok : Bool) (T : Form) (left' right' : List ℕ) (size' : ℕ) : Type 0 where
+pub record JoinStep
+    (meet : ℕ → ℕ → ℕ) (S : Form) (low high : ℕ) (left right : List ℕ) (size : ℕ)
+    (ok : Bool) (T : Form) (left' right' : List ℕ) (size' : ℕ)
+    : Type 0 where
   pub done : ok ≡ true → JoinDone meet S low high left right size T left' right' size'
   pub clash : ok ≡ false → meet (S .kind low) (S .kind high) ≡ 0

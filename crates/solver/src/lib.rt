@@ -112,7 +112,9 @@ fn both_known(x: u8, y: u8) -> usize
 // Each pair is written in any case, and the next one over it where it does not count.
 fn pushed(x: [u8; 16], y: [u8; 16], left: &mut [u8], right: &mut [u8], size: usize) -> usize
     requires { ⌜ (size + 16 ≤ length (now left)) × (size + 16 ≤ length (now right)) ⌝ }
-    ensures { λ r. ⌜ Pushed 16 (λ l. getD x l 0) (λ l. getD y l 0) (now (left .entry)) (now (right .entry)) size (now (left .exit)) (now (right .exit)) r ⌝ }
+    ensures { λ r. ⌜ Pushed 16 (λ l. getD x l 0) (λ l. getD y l 0)
+        (now (left .entry)) (now (right .entry)) size
+        (now (left .exit)) (now (right .exit)) r ⌝ }
 {
     let mut count = size;
     let mut l = 0;
@@ -125,6 +127,7 @@ fn pushed(x: [u8; 16], y: [u8; 16], left: &mut [u8], right: &mut [u8], size: usi
     count
 }
 
+// Two class numbers, the smaller first.
 struct Two(u8, u8);
 
 // Two different numbers, the smaller first.
@@ -175,7 +178,9 @@ fn join_step(
     size: usize,
 ) -> Step
     requires { ⌜ JoinReady n (now table) (formOf form) low high (now left) (now right) size ⌝ }
-    ensures { λ r. ⌜ JoinStep (meetAt n (now (table .entry))) (formOf form) low high (now (left .entry)) (now (right .entry)) (size - 1) (r .ok) (formOf (r .form)) (now (left .exit)) (now (right .exit)) (r .size) ⌝ }
+    ensures { λ r. ⌜ JoinStep (meetAt n (now (table .entry))) (formOf form) low high
+        (now (left .entry)) (now (right .entry)) (size - 1)
+        (r .ok) (formOf (r .form)) (now (left .exit)) (now (right .exit)) (r .size) ⌝ }
 {
     let i = form.kind[low as usize];
     let j = form.kind[high as usize];
@@ -200,8 +205,8 @@ fn join_step(
 }
 
 impl Solved {
-    // x and y made one, and all that follows from it: the pairs still to be made one wait in two lists. A join adds at most 16
-    // pairs and leaves one class less, so that 16 × 97 places are enough.
+    // x and y made one, and all that follows from it. The pairs still to be made one wait in two lists. A join adds at most 16
+    // pairs and leaves one class less, so that 16 × 97 places are enough for 96 nodes.
     fn settled(self, table: &[u8], n: usize, v: usize, x: u8, y: u8) -> Next
         requires { ⌜ Ready n v (now table) (formOf self) × (x < v) × (y < v) ⌝ }
         ensures { λ r. ⌜ Took n (meetAt n (now (table .entry))) v (formOf self) (same x y ∷ []) (r .ok) (formOf (r .form)) ⌝ }
@@ -235,7 +240,7 @@ impl Solved {
         Next { ok: true, form }
     }
 
-    // x and y made one. Most often they are one already, and then no list is made.
+    // x and y made one. Where they are one already, no list is made.
     fn with_same(self, table: &[u8], n: usize, v: usize, x: u8, y: u8) -> Next
         requires { ⌜ Ready n v (now table) (formOf self) × (x < v) × (y < v) ⌝ }
         ensures { λ r. ⌜ Took n (meetAt n (now (table .entry))) v (formOf self) (same x y ∷ []) (r .ok) (formOf (r .form)) ⌝ }

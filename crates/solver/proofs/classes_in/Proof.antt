@@ -1,7 +1,7 @@
 -- `classes_in` meets its contract: at each turn the count is that of the nodes so far.
 -- Assumes nothing.
-use mathlib.Core.Path.{_≡_, refl, sym, _∙_, ap}
-use Prim.Native.Nat.{_+_, _-_, _<_, _≤_}
+use mathlib.Core.Path.{_≡_, sym}
+use Prim.Native.Nat.{_-_, _≤_}
 use Rattle.meaning.specs.Solving.{classes}
 use Rattle.solver.specs.Unpacked.{formOf}
 use Rattle.solver.proofs.Run.{classes-none, classes-more, classes-le}

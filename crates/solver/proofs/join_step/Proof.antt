@@ -1,6 +1,6 @@
 -- `join_step` meets its contract: the meet of the two kinds decides, the rows read give the new pairs, and `joined` the form.
 -- Assumes nothing.
-use mathlib.Core.Path.{_≡_, sym, _∙_}
+use mathlib.Core.Path.{sym, _∙_}
 use mathlib.Core.Bool.{true≢false, false≢true}
 use Rattle.solver.proofs.Run.{pushed-along}
 use borrow.Author.Needs.{needs}

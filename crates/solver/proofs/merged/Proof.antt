@@ -1,7 +1,7 @@
 -- `merged` meets its contract: the loop fills the row place by place.
 -- Assumes nothing.
-use mathlib.Core.Path.{_≡_, refl, _∙_, ap}
-use Prim.Native.Nat.{_+_, _-_, _*_, _<_, _≤_}
+use mathlib.Core.Path.{_≡_, refl}
+use Prim.Native.Nat.{_-_, _≤_}
 use lib.ListN.{length, getD}
 use Rattle.solver.specs.Steps.{knownOf}
 use Rattle.solver.proofs.Fill.{Filled, filled-none, filled-set}

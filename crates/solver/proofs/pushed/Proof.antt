@@ -1,7 +1,7 @@
 -- `pushed` meets its contract: one link more at each turn of the loop.
 -- Assumes nothing.
-use mathlib.Core.Path.{_≡_, refl, _∙_, ap}
-use Prim.Native.Nat.{_+_, _-_, _*_, _<_, _≤_}
+use mathlib.Core.Path.{_≡_, refl}
+use Prim.Native.Nat.{_-_, _≤_}
 use lib.ListN.{length, getD, length-set}
 use Rattle.solver.specs.Steps.{Pushed}
 use Rattle.solver.proofs.Run.{pushed-none, pushed-more}

@@ -1,11 +1,11 @@
 -- `put_row` meets its contract: the loop fills 16 places from the row's first on, and no other.
 -- Assumes nothing.
-use mathlib.Core.Path.{_≡_, refl, _∙_, ap}
+use mathlib.Core.Path.{_≡_, refl, _∙_}
 use mathlib.Core.Logic.{by-cases}
-use Prim.Native.Nat.{_+_, _-_, _*_, _<_, _≤_}
+use Prim.Native.Nat.{_+_, _-_, _*_, _≤_}
 use native.Mathlib.Decide.{decLt}
 use native.Mathlib.Nat.{add-zero, add-assoc}
-use lib.ListN.{length, getD}
+use lib.ListN.{getD}
 use Rattle.solver.proofs.Fill.{Filled, filled-none, filled-set}
 use borrow.Author.Needs.{needs}
 use native.Mathlib.Omega.{arith}

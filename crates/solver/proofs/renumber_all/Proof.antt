@@ -1,7 +1,7 @@
 -- `renumber_all` meets its contract: the loop goes through the places one by one.
 -- Assumes nothing.
-use mathlib.Core.Path.{_≡_, refl, _∙_, ap}
-use Prim.Native.Nat.{_+_, _-_, _*_, _<_, _≤_}
+use mathlib.Core.Path.{_∙_, ap}
+use Prim.Native.Nat.{_-_, _≤_}
 use lib.ListN.{length, getD}
 use Rattle.solver.specs.Steps.{renumber}
 use Rattle.solver.proofs.Fill.{Filled, filled-none, filled-set}

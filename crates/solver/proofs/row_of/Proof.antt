@@ -1,7 +1,7 @@
 -- `row_of` meets its contract: the loop fills the row place by place.
 -- Assumes nothing.
-use mathlib.Core.Path.{_≡_, refl, _∙_, ap}
-use Prim.Native.Nat.{_+_, _-_, _*_, _<_, _≤_}
+use mathlib.Core.Path.{_≡_, refl}
+use Prim.Native.Nat.{_+_, _-_, _*_, _≤_}
 use lib.ListN.{length, getD}
 use Rattle.solver.proofs.Fill.{Filled, filled-none, filled-set}
 use borrow.Author.Needs.{needs}
@@ -10,7 +10,8 @@ use Rattle.solver.proofs.row_of.Statement.{statement}
 use Rattle.solver.proofs.row_of.Tie as tie
 
 abbrev Inv-loop : tie.InvT-loop
-Inv-loop link j row₀ base l₀ row l = (l ≤ 16) × (base ≡ j * 16) × (length row₀ ≡ 16) × Filled (λ k. getD link (j * 16 + k) 0) 0 l row₀ row
+Inv-loop link j row₀ base l₀ row l =
+    (l ≤ 16) × (base ≡ j * 16) × (length row₀ ≡ 16) × Filled (λ k. getD link (j * 16 + k) 0) 0 l row₀ row
 
 abbrev μ-loop : tie.MeasureT-loop
 μ-loop link j row₀ base l₀ row l = 16 - l

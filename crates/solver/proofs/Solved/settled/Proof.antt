@@ -2,16 +2,16 @@
 -- Assumes nothing.
 use mathlib.Core.Path.{_≡_, refl}
 use mathlib.Core.List.{[], _∷_}
-use Prim.Native.Nat.{_+_, _*_, _<_, _≤_}
-use lib.ListN.{length, getD}
+use Prim.Native.Nat.{_+_, _*_}
+use lib.ListN.{length}
 use borrow.Author.Tests.{not-true, not-false}
 use Rattle.kinds.specs.Kinds.{meetAt}
 use Rattle.meaning.specs.Picture.Fact.{same}
 use Rattle.meaning.specs.Solving.{classes}
-use Rattle.solver.specs.Unpacked.{formOf, Ready}
+use Rattle.solver.specs.Unpacked.{formOf}
 use Rattle.solver.specs.Steps.{Running}
 use Rattle.solver.proofs.Run.{run-start, run-done, last-nodes, last-room, run-skip, run-ready, run-clash, run-join, run-falls}
-use Rattle.solver.proofs.Parts.{took-taken, took-refuted}
+use Rattle.solver.proofs.Takes.{took-taken, took-refuted}
 use borrow.Author.Needs.{needs}
 use native.Mathlib.Omega.{arith}
 use Rattle.solver.proofs.Solved.settled.Statement.{statement}

@@ -3,9 +3,9 @@
 use mathlib.Core.Path.{_≡_, sym, _∙_}
 use lib.ListN.{length, getD}
 use Rattle.solver.proofs.Sets.{kind-taken, kind-refuted}
-use Rattle.solver.proofs.Parts.{kind-parts, class-inside, took-taken, took-refuted}
+use Rattle.solver.proofs.Parts.{kind-parts, class-inside}
+use Rattle.solver.proofs.Takes.{took-taken, took-refuted}
 use borrow.Author.Needs.{needs}
-use native.Mathlib.Omega.{arith}
 use borrow.Author.Needs.{needs}
 use Rattle.solver.proofs.Solved.with_kind.Statement.{statement}
 use Rattle.solver.proofs.Solved.with_kind.Tie as tie

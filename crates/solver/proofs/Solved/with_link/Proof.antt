@@ -1,12 +1,11 @@
 -- `with_link` meets its contract: a link not known is set, and the end of a known one is made one with y.
 -- Assumes nothing.
-use mathlib.Core.Path.{_≡_, sym, _∙_}
-use mathlib.Core.Logic.{_≢_}
+use mathlib.Core.Path.{_≡_}
 use lib.ListN.{length, getD}
-use Prim.Native.Nat.{ℕ, _+_, _*_, _<_}
 use Rattle.solver.proofs.Join.{class-of}
 use Rattle.solver.proofs.Sets.{link-taken, known-taken, known-refuted, end-inside}
-use Rattle.solver.proofs.Parts.{link-parts, class-inside, took-taken}
+use Rattle.solver.proofs.Parts.{link-parts, class-inside}
+use Rattle.solver.proofs.Takes.{took-taken}
 use borrow.Author.Needs.{needs}
 use native.Mathlib.Omega.{arith}
 use borrow.Author.Needs.{needs}

@@ -1,7 +1,7 @@
 -- `with_same` meets its contract: where the classes are one the fact says nothing new, and else `settled` takes it.
 -- Assumes nothing.
 use Rattle.solver.proofs.Sets.{same-already}
-use Rattle.solver.proofs.Parts.{took-taken}
+use Rattle.solver.proofs.Takes.{took-taken}
 use borrow.Author.Needs.{needs}
 use borrow.Author.Needs.{needs}
 use Rattle.solver.proofs.Solved.with_same.Statement.{statement}
