@@ -1,4 +1,5 @@
 pub mod Block
+pub mod Nodes
 pub mod Open
 pub mod Take
 pub mod Write
