@@ -1,13 +1,16 @@
 -- 'Packets' and replies 5 to 9: the parts of a packet, and the reply to the first thing that is wrong with it.
 -- Assumes nothing.
+use mathlib.Core.Path.{_≡_}
 use mathlib.Core.Bool.{Bool, false, not, _&&_, cond}
 use mathlib.Core.List.{List}
-use Prim.Native.Nat.{ℕ, zero, suc, _+_, _-_, _*_, _/_}
+use Prim.Native.Nat.{ℕ, zero, suc, _+_, _-_, _*_, _/_, _≤_}
 use lib.Dec.{eqb, leb, ltb}
 use lib.ListN.{length, getD}
 use Rattle.replies.specs.Replies.{orElse}
 use Rattle.replies.specs.declared.Reply.{Reply}
 use Rattle.replies.specs.declared.Reply.the-variants.{Done, BadLength, BadVersion, BadHeader, BadCount, BadPart}
+use Rattle.packets.specs.declared.Range.{Range}
+use Rattle.packets.specs.declared.Wanted.{Wanted}
 
 abbrev pub byte : List ℕ → ℕ → ℕ
 byte p i = getD p i 0
@@ -41,28 +44,30 @@ factAt p i = 6 + 2 * ties p + 4 * i
 abbrev pub factCount : List ℕ → ℕ
 factCount p = (L p - (4 + 2 * ties p)) / 4
 
+-- six bytes at least, and as many as L says
+abbrev pub lengthFits : List ℕ → Bool
+lengthFits p = leb 6 (length p) && eqb (length p) (L p + 2)
+
 -- some f from 0 to 1,088 fits L
 abbrev pub countFits : List ℕ → Bool
 countFits p = eqb (L p) (4 + 2 * ties p + 4 * factCount p) && leb (factCount p) 1088
 
--- what a call wants of a packet: its purpose, and the least and the greatest number of ties and of joints
-pub record Wanted : Type 0 where
-  pub purpose : ℕ
-  pub ties-from : ℕ
-  pub ties-to : ℕ
-  pub joints-from : ℕ
-  pub joints-to : ℕ
+-- the facts reach to the packet's last byte
+pub record Whole (p : List ℕ) : Type 0 where
+  pub header : 6 ≤ length p
+  pub ends : factAt p (factCount p) ≡ length p
+  pub few : factCount p ≤ 1088
 
 -- take: facts, no ties, the session's V
 abbrev pub factsWanted : ℕ → Wanted
-factsWanted v = record { purpose = 1; ties-from = 0; ties-to = 0; joints-from = v; joints-to = v }
+factsWanted v = record { purpose = 1; ties = record { from = 0; to = 0 }; joints = record { from = v; to = v } }
 
 -- ask: a rule, 1 to 8 ties, 1 to 32 joints
 abbrev pub ruleWanted : Wanted
-ruleWanted = record { purpose = 2; ties-from = 1; ties-to = 8; joints-from = 1; joints-to = 32 }
+ruleWanted = record { purpose = 2; ties = record { from = 1; to = 8 }; joints = record { from = 1; to = 32 } }
 
-abbrev pub within : ℕ → ℕ → ℕ → Bool
-within from to x = leb from x && leb x to
+abbrev pub within : Range → ℕ → Bool
+within r x = leb (r .from) x && leb x (r .to)
 
 -- a tie: a rule joint, of which there are as many as the packet says, and one of v rig joints
 abbrev pub tieFits : ℕ → List ℕ → ℕ → Bool
@@ -92,10 +97,10 @@ tiesReply v p = firstUnfit (tieFits v p) tieAt 0 (ties p)
 -- replies 5 to 9, the lowest number first; done where none fits
 unfoldable pub packetReply : Wanted → ℕ → ℕ → List ℕ → Reply
 packetReply w n v p =
-    cond (not (leb 6 (length p) && eqb (length p) (L p + 2))) BadLength
+    cond (not (lengthFits p)) BadLength
     (cond (not (eqb (version p) 1)) BadVersion
     (cond (not (eqb (purpose p) (w .purpose))) (BadHeader 3)
-    (cond (not (within (w .ties-from) (w .ties-to) (ties p))) (BadHeader 4)
-    (cond (not (within (w .joints-from) (w .joints-to) (joints p))) (BadHeader 5)
+    (cond (not (within (w .ties) (ties p))) (BadHeader 4)
+    (cond (not (within (w .joints) (joints p))) (BadHeader 5)
     (cond (not (countFits p)) BadCount
     (orElse (tiesReply v p) (factsReply n p)))))))

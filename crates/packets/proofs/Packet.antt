@@ -1,0 +1,55 @@
+-- The laws of the tests of a packet, and of a search for the first part that does not fit: what is left of it at each turn of a loop.
+-- Assumes nothing.
+use mathlib.Core.Path.{_≡_, refl, ap, _∙_}
+use mathlib.Core.Bool.{Bool, true, false, _&&_, cond, false≢true}
+use mathlib.Core.List.{List}
+use Prim.Native.Nat.{ℕ, zero, suc, _+_, _-_, _*_, _≤_, _<_}
+use native.Mathlib.Omega.{arith}
+use native.Mathlib.Numerals.{add-one}
+use native.Mathlib.Nat.{not-suc-le-zero, le-of-suc-le-suc, add-zero}
+use lib.ListN.{length}
+use borrow.Author.Tests.{leb-true, eqb-true}
+use Rattle.replies.specs.declared.Reply.{Reply}
+use Rattle.replies.specs.declared.Reply.the-variants.{Done, BadPart}
+use Rattle.packets.specs.Packet.{L, ties, factCount, lengthFits, countFits, Whole, firstUnfit}
+
+pub both : (a b : Bool) → (a && b) ≡ true → (a ≡ true) × (b ≡ true)
+both true b e = (refl, e)
+both false b e = absurd (false≢true e)
+
+module _ (p : List ℕ) where
+  pub length-right : lengthFits p ≡ true → (6 ≤ length p) × (length p ≡ L p + 2)
+  length-right e = let b = both _ _ e in (leb-true 6 (length p) (b .0), eqb-true (length p) (L p + 2) (b .1))
+
+  pub count-right : countFits p ≡ true → (L p ≡ 4 + 2 * ties p + 4 * factCount p) × (factCount p ≤ 1088)
+  count-right e =
+      let b = both _ _ e in
+      (eqb-true (L p) (4 + 2 * ties p + 4 * factCount p) (b .0), leb-true (factCount p) 1088 (b .1))
+
+  pub whole : lengthFits p ≡ true → countFits p ≡ true → Whole p
+  whole l c =
+      let s = length-right l in
+      let f = count-right c in
+      record { header = s .0; ends = omega arith; few = f .1 }
+
+-- x is the first unfit part of those from the i-th to the last of n
+pub record Left (x : Reply) (fits : ℕ → Bool) (at : ℕ → ℕ) (i n : ℕ) : Type 0 where
+  pub is : x ≡ firstUnfit fits at i (n - i)
+
+pub begins : (fits : ℕ → Bool) (at : ℕ → ℕ) {n count : ℕ} → n ≡ count → Left (firstUnfit fits at 0 count) fits at 0 n
+begins fits at e = record { is = ap (firstUnfit fits at 0) (omega arith) }
+
+module _ {x : Reply} {fits : ℕ → Bool} {at : ℕ → ℕ} {i n : ℕ} (l : Left x fits at i n) where
+  opened : i < n → x ≡ cond (fits (at i)) (firstUnfit fits at (i + 1) (n - (i + 1))) (BadPart (at i))
+  unfolding firstUnfit
+  opened h = l .is ∙ (let e : n - i ≡ suc (n - (i + 1)) = omega arith in rw (e, add-one))
+
+  pub passes : i < n → fits (at i) ≡ true → Left x fits at (i + 1) n
+  passes h e = record { is = opened h ∙ simp e }
+
+  pub stops : i < n → fits (at i) ≡ false → x ≡ BadPart (at i)
+  stops h e = opened h ∙ simp e
+
+  pub ends : n ≤ i → x ≡ Done 0
+  unfolding firstUnfit
+  ends h = l .is ∙ (let e : n - i ≡ 0 = omega arith in rw e)

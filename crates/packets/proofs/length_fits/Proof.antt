@@ -1,0 +1,21 @@
+-- `packets::length_fits` meets its contract: the two tests are those of the definition.
+-- Assumes nothing.
+use borrow.Author.Tests.{le-leb, lt-leb}
+use borrow.Author.Needs.{needs}
+use Rattle.packets.proofs.length_fits.Statement.{statement}
+use Rattle.packets.proofs.length_fits.Tie as tie
+
+returns : tie.Need-returns
+returns c = simp (lt-leb _ _ (c .if1 .taken))
+
+stated-length-requires : tie.Need-stated-length-requires
+stated-length-requires c κs = search needs
+
+add-result : tie.Need-add-result
+add-result c = search needs
+
+returns-2 : tie.Need-returns-2
+returns-2 c = simp (le-leb _ _ (c .before .if1 .left), c .stated-length .ensures .0)
+
+pub length-fits-spec : {M : Type 1} → statement M
+length-fits-spec = tie.close (tie.spec returns stated-length-requires add-result returns-2)

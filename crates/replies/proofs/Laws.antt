@@ -1,0 +1,28 @@
+-- The first of two replies where it refuses and the second where it does not; a reply that does not refuse is done, with its third number.
+-- Assumes nothing.
+use mathlib.Core.Path.{_≡_, refl, ap}
+use mathlib.Core.Bool.{Bool, true, false, cond, true≢false}
+use Rattle.replies.specs.Replies.{third, refuses, orElse}
+use Rattle.replies.specs.declared.Reply.{Reply}
+use Rattle.replies.specs.declared.Reply.the-variants.{Done, BadSize, NoKind, LawBroken, BadBlock, BadLength, BadVersion, BadHeader, BadCount, BadPart, NotReached, Clash, ShortOutput}
+
+pub or-first : (a b : Reply) → refuses a ≡ true → orElse a b ≡ a
+or-first a b e = ap (λ (t : Bool). cond t a b) e
+
+pub or-second : (a b : Reply) → refuses a ≡ false → orElse a b ≡ b
+or-second a b e = ap (λ (t : Bool). cond t a b) e
+
+pub done : (r : Reply) → refuses r ≡ false → r ≡ Done (third r)
+done (Done t) e = refl
+done BadSize e = absurd (true≢false e)
+done (NoKind p) e = absurd (true≢false e)
+done (LawBroken p) e = absurd (true≢false e)
+done BadBlock e = absurd (true≢false e)
+done BadLength e = absurd (true≢false e)
+done BadVersion e = absurd (true≢false e)
+done (BadHeader p) e = absurd (true≢false e)
+done BadCount e = absurd (true≢false e)
+done (BadPart p) e = absurd (true≢false e)
+done (NotReached j) e = absurd (true≢false e)
+done Clash e = absurd (true≢false e)
+done ShortOutput e = absurd (true≢false e)
