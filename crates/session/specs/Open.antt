@@ -9,12 +9,12 @@ use Rattle.replies.specs.declared.Reply.{Reply}
 use Rattle.replies.specs.declared.Reply.the-variants.{BadSize}
 use Rattle.replies.specs.Replies.{refuses}
 use Rattle.tables.specs.Check.{tableReply}
-use Rattle.packets.specs.Packet.{within}
 use Rattle.blocks.specs.Layout.{blockSize, freshBlock}
 
 -- n and V are in range, the table has n × n bytes, and the block its size
 abbrev pub sizesFit : ℕ → ℕ → List ℕ → List ℕ → Bool
-sizesFit n v table b = within 2 64 n && (within 1 64 v && (eqb (length table) (n * n) && eqb (length b) blockSize))
+sizesFit n v table b =
+    (leb 2 n && leb n 64) && ((leb 1 v && leb v 64) && (eqb (length table) (n * n) && eqb (length b) blockSize))
 
 unfoldable pub openReply : ℕ → ℕ → List ℕ → List ℕ → Reply
 openReply n v table b = cond (sizesFit n v table b) (tableReply n table) BadSize
