@@ -85,7 +85,7 @@ pub form-models : {S T : Form} → SameForm S T → {n : ℕ} {meet : ℕ → �
 form-models e = (models-one e, models-one (form-sym e))
 
 -- a byte from m on, counted from there; and in the part of some size that begins there
-byte-from : (m : ℕ) (b : List ℕ) (i : ℕ) → m ≤ i → getD b i 0 ≡ getD (drop m b) (i - m) 0
+pub byte-from : (m : ℕ) (b : List ℕ) (i : ℕ) → m ≤ i → getD b i 0 ≡ getD (drop m b) (i - m) 0
 byte-from m b i h = let e : m + (i - m) ≡ i = omega arith in sym (getD-drop m b (i - m) 0 ∙ ap (λ (k : ℕ). getD b k 0) e)
 
 byte-in : (m size : ℕ) (b : List ℕ) (i : ℕ) → m ≤ i → i < m + size → getD b i 0 ≡ getD (take size (drop m b)) (i - m) 0
