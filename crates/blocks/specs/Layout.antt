@@ -6,7 +6,7 @@ use mathlib.Core.List.{List, [], _∷_, _++_}
 use Prim.Native.Nat.{ℕ, zero, suc, _+_, _-_, _*_}
 use lib.Dec.{ltb}
 use lib.ListN.{length, getD, take, drop, replicate}
-use Rattle.meaning.specs.Form.{Form}
+use Rattle.meaning.specs.Form.{Form, listForm}
 
 abbrev pub blockSize : ℕ
 blockSize = 5250
@@ -32,11 +32,6 @@ rowsOf b = take 1024 (drop 130 b)
 -- from 1,154 the kind table
 abbrev pub tableOf : List ℕ → List ℕ
 tableOf b = take (kindsOf b * kindsOf b) (drop 1154 b)
-
--- the form of three lists of bytes
-abbrev pub listForm : List ℕ → List ℕ → List ℕ → Form
-listForm classes kinds rows =
-    record { class = λ j. getD classes j 0; kind = λ j. getD kinds j 0; link = λ j l. getD rows (j * 16 + l) 0 }
 
 -- the form that a block holds
 abbrev pub blockForm : List ℕ → Form

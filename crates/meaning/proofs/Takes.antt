@@ -7,6 +7,7 @@ use Rattle.kinds.specs.Kinds.{Lawful}
 use Rattle.meaning.specs.declared.RigJoint.{RigJoint}
 use Rattle.meaning.specs.Picture.{Picture, Fact, All, rename, Clash, SameMeaning, Every}
 use Rattle.meaning.specs.Form.{Form, Well, rigJoint, takenFacts}
+use Rattle.meaning.specs.Solving.{rigNumber}
 use Rattle.meaning.specs.Solving.{Models, Taken, Refuted}
 use Rattle.meaning.proofs.Facts.{byNumber, all-append, all-left, all-right, all-rename, models→taken, taken→models}
 use Rattle.meaning.proofs.Canon.{canon, canon-placing, canon-models}
@@ -51,9 +52,6 @@ module _ {n : ℕ} {meet : ℕ → ℕ → ℕ} (L : Lawful n meet) {v : ℕ} (p
       c (canon pos (t .well)) (T .class) (canon-placing pos (t .well)) (m .0) (m .1)
 
 -- new facts on rig joints, taken at the nodes of their numbers
-abbrev pub rigNumber : RigJoint → ℕ
-rigNumber j = j .0
-
 module _ {n : ℕ} {meet : ℕ → ℕ → ℕ} (L : Lawful n meet) (two : 1 < n) (v : ℕ) (S : Form) (fs : List (Fact RigJoint)) where
   -- the taken and the new facts, at nodes
   to-nodes : (P : Picture n) (σ : RigJoint → ℕ) → All meet P σ (takenFacts v S ++ fs) →

@@ -4,8 +4,9 @@ use mathlib.Core.Path.{_≡_}
 use mathlib.Core.Logic.{_≢_, _⊎_}
 use mathlib.Core.Bool.{cond}
 use mathlib.Core.List.{List, [], _∷_, _++_, map}
-use Prim.Native.Nat.{ℕ, zero, suc, _<_, _≤_}
+use Prim.Native.Nat.{ℕ, zero, suc, _+_, _*_, _<_, _≤_}
 use lib.Dec.{eqb}
+use lib.ListN.{getD}
 use Rattle.meaning.specs.declared.RigJoint.{RigJoint}
 use Rattle.meaning.specs.Picture.{Fact, rename}
 use Rattle.meaning.specs.Picture.Fact.{has-kind, same, leads}
@@ -15,6 +16,11 @@ pub record Form : Type 0 where
   pub class : ℕ → ℕ
   pub kind : ℕ → ℕ
   pub link : ℕ → ℕ → ℕ
+
+-- the form that lists of class numbers, kinds and links make, one row of 16 links for each joint
+abbrev pub listForm : List ℕ → List ℕ → List ℕ → Form
+listForm classes kinds links =
+    record { class = λ j. getD classes j 0; kind = λ j. getD kinds j 0; link = λ j l. getD links (j * 16 + l) 0 }
 
 -- a link that is not known
 abbrev pub unknown : ℕ

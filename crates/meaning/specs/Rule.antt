@@ -6,6 +6,8 @@ use Prim.Native.Nat.{ℕ}
 use Rattle.meaning.specs.declared.RigJoint.{RigJoint}
 use Rattle.meaning.specs.declared.RuleJoint.{RuleJoint}
 use Rattle.meaning.specs.declared.Tie.{Tie}
+use Rattle.meaning.specs.declared.Verdict.{Verdict}
+use Rattle.meaning.specs.declared.Verdict.the-variants as verdict
 use Rattle.meaning.specs.Picture.{Picture, Placing, Fact, All}
 use Rattle.meaning.specs.Picture.Fact.{leads}
 
@@ -34,10 +36,21 @@ pub data Reached (r : Rule) : RuleJoint → Type 0 where
   by-tie : {t : Tie} → List·Memᴰ t (r .ties) → Reached r (t .rule)
   by-link : {a c : RuleJoint} {l : ℕ} → List·Memᴰ (leads a l c) (r .facts) → Reached r a → Reached r c
 
--- the verdicts on a rule, given the taken facts; a rule of which neither holds waits
+-- the verdicts on a rule, given the taken facts
 module _ {n : ℕ} (meet : ℕ → ℕ → ℕ) (Counts : Picture n → Type 0) (taken : List (Fact RigJoint)) (r : Rule) where
   abbrev pub Applies : Type 0
   Applies = (P : Picture n) (σ : RigJoint → ℕ) → Counts P → Placing P σ → All meet P σ taken → Found meet P σ r
 
   abbrev pub RuledOut : Type 0
   RuledOut = (P : Picture n) (σ : RigJoint → ℕ) → Counts P → Placing P σ → All meet P σ taken → Found meet P σ r → ⊥
+
+  -- what each verdict says; a rule that neither applies nor is ruled out waits
+  abbrev pub Judged : Verdict → Type 0
+  Judged verdict.Applies = Applies
+  Judged verdict.RuledOut = RuledOut
+  Judged verdict.Waits = (Applies → ⊥) × (RuledOut → ⊥)
+
+abbrev pub verdictNumber : Verdict → ℕ
+verdictNumber verdict.Applies = 1
+verdictNumber verdict.RuledOut = 2
+verdictNumber verdict.Waits = 3

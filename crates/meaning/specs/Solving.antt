@@ -8,11 +8,15 @@ use Prim.Native.Nat.{ℕ, zero, suc, _+_, _*_, _<_, _≤_}
 use lib.ListN.{getD}
 use lib.Dec.{eqb}
 use Rattle.kinds.specs.Kinds.{Under}
-use Rattle.meaning.specs.declared.Tie.{Tie}
+use Rattle.meaning.specs.declared.RigJoint.{RigJoint}
 use Rattle.meaning.specs.Picture.{Picture, Placing, Fact, All, rename}
 use Rattle.meaning.specs.Picture.Fact.{has-kind, same, leads}
 use Rattle.meaning.specs.Rule.{Rule}
 use Rattle.meaning.specs.Form.{Form, unknown, Smallest, Well}
+
+-- the node of a rig joint
+abbrev pub rigNumber : RigJoint → ℕ
+rigNumber j = j .0
 
 -- the numbers of a fact are in range: joints below v, kinds below n, links below 16
 abbrev pub InRange : ℕ → ℕ → Fact ℕ → Type 0

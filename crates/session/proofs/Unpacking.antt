@@ -9,7 +9,7 @@ use native.Mathlib.Decide.{decLt}
 use lib.ListN.{getD, length, List·getD-eq-default}
 use borrow.Author.Tests.{lt-ltb, le-ltb}
 use Rattle.meaning.specs.Asking.{Extends}
-use Rattle.solver.specs.Unpacked.{listForm}
+use Rattle.meaning.specs.Form.{listForm}
 use Rattle.blocks.specs.Layout.{classesOf, jointKindsOf, rowsOf, blockForm}
 use Rattle.session.specs.Nodes.{nodeByte, numbered, Written}
 

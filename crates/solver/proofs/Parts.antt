@@ -9,7 +9,8 @@ use native.Mathlib.Decide.{decLt}
 use lib.ListN.{getD, length, set, length-set, List·getD-eq-default}
 use lib.Seq.{getD-set-same, getD-set-other}
 use Rattle.meaning.specs.Form.{Form}
-use Rattle.solver.specs.Unpacked.{listForm, Ready}
+use Rattle.solver.specs.Unpacked.{Ready}
+use Rattle.meaning.specs.Form.{listForm}
 use Rattle.solver.specs.Steps.{renumber, knownOf, Renumbered, RowOf, RowPut, Joined, KindSet, LinkSet}
 use Rattle.solver.proofs.Join.{renumber-miss, class-of}
 

@@ -3,21 +3,16 @@
 use mathlib.Core.Path.{_≡_}
 use mathlib.Core.Bool.{Bool, true, false}
 use mathlib.Core.List.{List}
-use Prim.Native.Nat.{ℕ, _+_, _*_, _<_, _≤_}
-use lib.ListN.{length, getD}
+use Prim.Native.Nat.{ℕ, _*_, _<_, _≤_}
+use lib.ListN.{length}
 use Rattle.kinds.specs.Kinds.{Lawful, meetAt}
 use Rattle.meaning.specs.Picture.{Fact}
 use Rattle.meaning.specs.Picture.Fact.{has-kind, same, leads}
-use Rattle.meaning.specs.Form.{Form, Well}
+use Rattle.meaning.specs.Form.{Form, Well, listForm}
 use Rattle.meaning.specs.Solving.{Taken, Refuted}
 use Rattle.solver.specs.declared.Solved.{Solved}
 use Rattle.solver.specs.declared.NodeFact.{NodeFact}
 use Rattle.solver.specs.declared.NodeFact.the-variants.{Kind, Same, Link}
-
--- the form that lists of class numbers, kinds and links make, one row of 16 links for each node
-abbrev pub listForm : List ℕ → List ℕ → List ℕ → Form
-listForm class kind link =
-    record { class = λ j. getD class j 0; kind = λ j. getD kind j 0; link = λ j l. getD link (j * 16 + l) 0 }
 
 abbrev pub formOf : Solved → Form
 formOf s = listForm (s .class) (s .kind) (s .link)
