@@ -1,0 +1,30 @@
+-- `blocks::class_fits` meets its contract: the tests of a class number, in turn.
+-- Assumes nothing.
+use Rattle.blocks.specs.Layout.{kindsOf, blockForm}
+use Rattle.blocks.proofs.Checks.{class-behind, class-above, class-below}
+use borrow.Author.Needs.{needs}
+use Rattle.blocks.proofs.class_fits.Statement.{statement}
+use Rattle.blocks.proofs.class_fits.Tie as tie
+
+class-at-requires : tie.Need-class-at-requires
+class-at-requires c κs = search needs
+
+returns : tie.Need-returns
+returns c = let b = c .before .before .before .args .block .now in
+    class-behind (kindsOf b) _ (blockForm b) _ (c .if1 .taken) (c .before .class-at .ensures)
+
+returns-2 : tie.Need-returns-2
+returns-2 c = let b = c .before .before .before .before .args .block .now in
+    class-above (kindsOf b) _ (blockForm b) _ (c .before .if1 .left) (c .before .before .class-at .ensures) (c .if2 .taken)
+
+is-smallest-requires : tie.Need-is-smallest-requires
+is-smallest-requires c κs = search needs
+
+returns-3 : tie.Need-returns-3
+returns-3 c = let b = c .before .before .before .before .before .args .block .now in
+    class-below (kindsOf b) _ (blockForm b) _
+    (c .before .before .if1 .left) (c .before .before .before .class-at .ensures) (c .before .if2 .left) (c .is-smallest .ensures)
+
+pub class-fits-spec : {M : Type 1} → statement M
+class-fits-spec =
+    tie.close (tie.spec class-at-requires returns returns-2 is-smallest-requires returns-3)
