@@ -11,7 +11,7 @@ use lib.ListN.{length}
 use borrow.Author.Tests.{leb-true, eqb-true}
 use Rattle.replies.specs.declared.Reply.{Reply}
 use Rattle.replies.specs.declared.Reply.the-variants.{Done, BadPart}
-use Rattle.packets.specs.Packet.{L, ties, factCount, lengthFits, countFits, Whole, firstUnfit}
+use Rattle.packets.specs.Packet.{L, ties, tieAt, factAt, factCount, lengthFits, countFits, Whole, firstUnfit}
 
 pub both : (a b : Bool) → (a && b) ≡ true → (a ≡ true) × (b ≡ true)
 both true b e = (refl, e)
@@ -31,6 +31,13 @@ module _ (p : List ℕ) where
       let s = length-right l in
       let f = count-right c in
       record { header = s .0; ends = omega arith; few = f .1 }
+
+-- where the facts reach to the end, every tie and every fact lies inside
+pub tie-inside : {p : List ℕ} → Whole p → (i : ℕ) → i < ties p → tieAt i + 2 ≤ length p
+tie-inside w i h = omega (arith, w .ends)
+
+pub fact-inside : {p : List ℕ} → Whole p → (i : ℕ) → i < factCount p → factAt p i + 4 ≤ length p
+fact-inside w i h = omega (arith, w .ends)
 
 -- x is the first unfit part of those from the i-th to the last of n
 pub record Left (x : Reply) (fits : ℕ → Bool) (at : ℕ → ℕ) (i n : ℕ) : Type 0 where

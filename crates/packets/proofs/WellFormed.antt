@@ -14,13 +14,18 @@ use Rattle.replies.specs.Replies.{refuses, third, orElse}
 use Rattle.replies.specs.declared.Reply.{Reply}
 use Rattle.replies.specs.declared.Reply.the-variants.{Done, BadLength, BadVersion, BadHeader, BadCount, BadPart}
 use Rattle.replies.proofs.Laws.{done}
-use Rattle.meaning.specs.Picture.{Fact}
+use Rattle.meaning.specs.declared.RuleJoint.{RuleJoint}
+use Rattle.meaning.specs.Picture.{Fact, rename}
 use Rattle.meaning.specs.Picture.Fact.{has-kind, same, leads}
+use Rattle.meaning.specs.Rule.{ruleJoint}
 use Rattle.meaning.specs.Solving.{InRange}
 use Rattle.packets.specs.declared.Range.{Range}
 use Rattle.packets.specs.declared.Wanted.{Wanted}
-use Rattle.packets.specs.Packet.{byte, L, version, purpose, ties, joints, tieAt, factAt, factCount, lengthFits, countFits, Whole, within, tieFits, factFits, firstUnfit, tiesReply, factsReply, packetReply}
+use Rattle.packets.specs.Packet.{byte, L, version, purpose, ties, joints, tieAt, factAt, factCount, lengthFits, countFits, Whole, ruleWanted, within, tieFits, factFits, firstUnfit, tiesReply, factsReply, packetReply}
 use Rattle.packets.specs.Facts.{factOf}
+use Rattle.packets.specs.Reached.{RulePacket}
+use Rattle.packets.specs.Marking.{nthFact}
+use Rattle.packets.proofs.Facts.{fact-named}
 use Rattle.packets.proofs.Packet.{both, length-right, whole}
 
 pub record WellFormed (w : Wanted) (n v : ℕ) (p : List ℕ) : Type 0 where
@@ -50,7 +55,9 @@ or-neither a b = neither (refuses a) refl
     neither false q e = (q, e)
 
 -- every part fits, of those from the i-th on
-fit-from : (fits : ℕ → Bool) (at : ℕ → ℕ) (count i : ℕ) → refuses (firstUnfit fits at i count) ≡ false → (k : ℕ) → k < count → fits (at (i + k)) ≡ true
+fit-from :
+    (fits : ℕ → Bool) (at : ℕ → ℕ) (count i : ℕ) → refuses (firstUnfit fits at i count) ≡ false →
+    (k : ℕ) → k < count → fits (at (i + k)) ≡ true
 unfolding firstUnfit
 fit-from fits at zero i e k h = absurd (not-suc-le-zero h)
 fit-from fits at (suc count) i e zero h = ap (λ (j : ℕ). fits (at j)) (add-zero i) ∙ here (fits (at i)) e
@@ -58,13 +65,18 @@ fit-from fits at (suc count) i e zero h = ap (λ (j : ℕ). fits (at j)) (add-ze
     here : (b : Bool) → refuses (cond b (firstUnfit fits at (suc i) count) (BadPart (at i))) ≡ false → b ≡ true
     here true q = refl
     here false q = absurd (true≢false q)
-fit-from fits at (suc count) i e (suc k) h = ap (λ (j : ℕ). fits (at j)) (omega arith) ∙ fit-from fits at count (suc i) (rest (fits (at i)) e) k (le-of-suc-le-suc h)
+fit-from fits at (suc count) i e (suc k) h =
+    ap (λ (j : ℕ). fits (at j)) (omega arith) ∙ fit-from fits at count (suc i) (rest (fits (at i)) e) k (le-of-suc-le-suc h)
   where
-    rest : (b : Bool) → refuses (cond b (firstUnfit fits at (suc i) count) (BadPart (at i))) ≡ false → refuses (firstUnfit fits at (suc i) count) ≡ false
+    rest :
+        (b : Bool) → refuses (cond b (firstUnfit fits at (suc i) count) (BadPart (at i))) ≡ false →
+        refuses (firstUnfit fits at (suc i) count) ≡ false
     rest true q = q
     rest false q = absurd (true≢false q)
 
-fit : (fits : ℕ → Bool) (at : ℕ → ℕ) (count : ℕ) → refuses (firstUnfit fits at 0 count) ≡ false → (k : ℕ) → k < count → fits (at k) ≡ true
+fit :
+    (fits : ℕ → Bool) (at : ℕ → ℕ) (count : ℕ) → refuses (firstUnfit fits at 0 count) ≡ false →
+    (k : ℕ) → k < count → fits (at k) ≡ true
 fit fits at count e k h = ap (λ (j : ℕ). fits (at j)) (omega arith) ∙ fit-from fits at count 0 e k h
 
 -- a fact that fits is in range, whatever its tag
@@ -141,8 +153,32 @@ module _ (w : Wanted) (n v : ℕ) (p : List ℕ) where
       (third-of (not (within (w .ties) (ties p))) (BadHeader 4) _ refl
       (third-of (not (within (w .joints) (joints p))) (BadHeader 5) _ refl
       (third-of (not (countFits p)) BadCount _ refl
-      (third-of (refuses (tiesReply v p)) (tiesReply v p) (factsReply n p) (first-third (tieFits v p) tieAt (ties p) 0) (first-third (factFits n p) (factAt p) (factCount p) 0)))))))
+      (third-of (refuses (tiesReply v p)) (tiesReply v p) (factsReply n p)
+      (first-third (tieFits v p) tieAt (ties p) 0) (first-third (factFits n p) (factAt p) (factCount p) 0)))))))
 
   -- done or a refusal
   pub packet-done : refuses (packetReply w n v p) ≡ false → packetReply w n v p ≡ Done 0
   packet-done e = done _ e ∙ ap Done packet-third
+
+-- the numbers of a link that is in range
+link-range :
+    (n v : ℕ) (f : Fact ℕ) {a c : RuleJoint} {l : ℕ} → InRange n v f → rename ruleJoint f ≡ leads a l c → (a .0 < v) × (c .0 < v)
+link-range n v (has-kind x s) r e = absurd (let z : _≡_ {A = ℕ} 0 1 = cc in omega arith)
+link-range n v (same x y) r e = absurd (let z : _≡_ {A = ℕ} 0 1 = cc in omega arith)
+link-range n v (leads x k y) {a} {c} r e = let q : x ≡ a .0 = cc in let s : y ≡ c .0 = cc in (omega arith, omega arith)
+
+-- a rule's parts, where no reply from 5 to 9 refuses it
+module _ {p : List ℕ} (r : RulePacket p) where
+  pub rule-well : WellFormed ruleWanted (r .n) (r .v) p
+  rule-well = well-formed ruleWanted (r .n) (r .v) p (ap refuses (r .well))
+
+  pub rule-tie : (i : ℕ) → i < ties p → byte p (tieAt i) < 32
+  rule-tie i h = omega (arith, rule-well .tie-rule i h, rule-well .joints-to)
+
+  pub rule-link :
+      (i : ℕ) → i < factCount p → {a c : RuleJoint} {l : ℕ} → nthFact p i ≡ leads a l c → (a .0 < 32) × (c .0 < 32)
+  rule-link i h e =
+      let named = sym (fact-named ruleJoint p (factAt p i)) ∙ e in
+      let q = link-range (r .n) (joints p) (factOf (λ j. j) p (factAt p i)) (rule-well .fact i h) named in
+      let t = rule-well .joints-to in
+      (omega arith, omega arith)

@@ -1,2 +1,4 @@
 pub mod Packet
 pub mod Facts
+pub mod Reached
+pub mod Marking

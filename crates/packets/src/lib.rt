@@ -1,10 +1,12 @@
 // Packets: the reply to any bytes, and what a well-formed packet says, part by part.
 ghost use mathlib.Core.Path.{_≡_};
-ghost use mathlib.Core.Bool.{_&&_};
-ghost use Prim.Native.Nat.{_+_, _*_, _<_, _≤_};
-ghost use lib.ListN.{length};
-ghost use Rattle.packets.specs.Packet.{byte, L, ties, tieAt, factAt, factCount, lengthFits, countFits, Whole, factsWanted, ruleWanted, within, tieFits, factFits, factsReply, tiesReply, packetReply};
-ghost use Rattle.packets.specs.Facts.{factOf, tieOf, rigFact, ruleFact};
+ghost use mathlib.Core.Bool.{false, _&&_, cond};
+ghost use Prim.Native.Nat.{_+_, _*_, _^_, _<_, _≤_};
+ghost use lib.ListN.{length, getD};
+ghost use Rattle.packets.specs.Packet.{byte, L, ties, factAt, factCount, lengthFits, countFits, Whole, factsWanted, ruleWanted, within, tieFits, factFits, factsReply, tiesReply, packetReply};
+ghost use Rattle.packets.specs.Facts.{factOf, tieOf, rigFact, ruleFact, ruleOf};
+ghost use Rattle.packets.specs.Reached.{SmallestNot, ReachReply, RulePacket};
+ghost use Rattle.packets.specs.Marking.{nthFact, Marked, WithMark, LinkMarked, Sound, TiesMarked, Grown, Follows, Followed, Closed, marked};
 ghost use Rattle.meaning.specs.Form.{rigJoint};
 ghost use Rattle.meaning.specs.Rule.{ruleJoint};
 use meaning::RigFact;
@@ -128,6 +130,14 @@ fn fact_fits(packet: &[u8], at: usize, n: usize) -> bool
     false
 }
 
+// Where the i-th fact stands. The bound on i holds for any packet: L is below 65,536.
+pub fn fact_at(packet: &[u8], i: usize) -> usize
+    requires { ⌜ (6 ≤ length (now packet)) × (i < 65536) ⌝ }
+    ensures { λ r. ⌜ (r ≡ factAt (now (packet .entry)) i) × (r < 2 ^ 32) ⌝ }
+{
+    6 + 2 * byte_at(packet, 4) + 4 * i
+}
+
 // The first tie that is none, in a packet that holds all its ties.
 fn first_bad_tie(packet: &[u8], v: usize) -> Reply
     requires { ⌜ (6 ≤ length (now packet)) × (6 + 2 * ties (now packet) ≤ length (now packet)) ⌝ }
@@ -149,20 +159,19 @@ fn first_bad_fact(packet: &[u8], n: usize) -> Reply
     requires { ⌜ Whole (now packet) ⌝ }
     ensures { λ r. ⌜ r ≡ factsReply n (now (packet .entry)) ⌝ }
 {
-    let first = 6 + 2 * byte_at(packet, 4);
     let count = fact_count(packet);
     for i in 0..count {
-        let at = first + 4 * i;
-        if fact_fits(packet, at, n) {
+        let place = fact_at(packet, i);
+        if fact_fits(packet, place, n) {
             continue;
         }
-        return Reply::BadPart(at as u32);
+        return Reply::BadPart(place as u32);
     }
     Reply::Done(0)
 }
 
 // Replies 5 to 9: the first thing that is wrong, in the order of their numbers.
-pub fn packet_reply(packet: &[u8], w: Wanted, n: usize, v: usize) -> Reply
+fn packet_reply(packet: &[u8], w: Wanted, n: usize, v: usize) -> Reply
     ensures { λ r. ⌜ r ≡ packetReply w n v (now (packet .entry)) ⌝ }
 {
     if !length_fits(packet) {
@@ -214,7 +223,7 @@ pub fn rule_form_reply(packet: &[u8], n: usize, v: usize) -> Reply
     packet_reply(packet, wanted, n, v)
 }
 
-// The fact at a byte, on rig joints. Its tag is taken at its word.
+// The fact at a byte, on rig joints. A tag that is neither 1 nor 2 is read as 3: replies 5 to 9 have told others before.
 pub fn rig_fact(packet: &[u8], at: usize) -> RigFact
     requires { ⌜ at + 4 ≤ length (now packet) ⌝ }
     ensures { λ r. ⌜ rigFact r ≡ factOf rigJoint (now (packet .entry)) at ⌝ }
@@ -253,4 +262,131 @@ pub fn tie(packet: &[u8], at: usize) -> Tie
         rule: RuleJoint(packet[at]),
         rig: RigJoint(packet[at + 1]),
     }
+}
+
+// Which of a rule's joints are known to be reached.
+pub struct Marks(pub [bool; 32]);
+
+fn is_marked(marks: Marks, j: usize) -> bool
+    requires { ⌜ j < 32 ⌝ }
+    ensures { λ b. ⌜ b ≡ getD (marks .0) j false ⌝ }
+{
+    let on = marks.0;
+    on[j]
+}
+
+// The joint j marked, too.
+fn mark(marks: Marks, j: usize) -> Marks
+    requires { ⌜ j < 32 ⌝ }
+    ensures { λ r. ⌜ WithMark marks j r ⌝ }
+{
+    let mut on = marks.0;
+    on[j] = true;
+    Marks(on)
+}
+
+// A tied joint is reached.
+fn mark_ties(packet: &[u8]) -> Marks
+    requires { ⌜ RulePacket (now packet) ⌝ }
+    ensures { λ r. ⌜ Sound (now (packet .entry)) r × TiesMarked (now (packet .entry)) r ⌝ }
+{
+    let count = byte_at(packet, 4);
+    let mut marks = Marks([false; 32]);
+    for i in 0..count {
+        let j = byte_at(packet, 6 + 2 * i);
+        marks = mark(marks, j);
+    }
+    marks
+}
+
+// c is marked where a is.
+fn mark_link(marks: Marks, a: RuleJoint, c: RuleJoint) -> Marks
+    requires { ⌜ (a .0 < 32) × (c .0 < 32) ⌝ }
+    ensures { λ r. ⌜ LinkMarked marks a c r ⌝ }
+{
+    if is_marked(marks, a.0 as usize) {
+        return mark(marks, c.0 as usize);
+    }
+    marks
+}
+
+// c is reached when the i-th fact is "a.l is c" and a is reached. Nothing is reached from c back to a.
+fn mark_fact(packet: &[u8], i: usize, marks: Marks) -> Marks
+    requires { ⌜ RulePacket (now packet) ⌝ }
+    requires { ⌜ i < factCount (now packet) ⌝ }
+    ensures { λ r. ⌜ Grown (now (packet .entry)) marks r × Follows (nthFact (now (packet .entry)) i) marks r ⌝ }
+{
+    let fact = rule_fact(packet, fact_at(packet, i));
+    match fact {
+        RuleFact::Kind(_, _) => marks,
+        RuleFact::Same(_, _) => marks,
+        RuleFact::Link(a, _, c) => mark_link(marks, a, c),
+    }
+}
+
+// Every fact once, in turn.
+fn mark_facts(packet: &[u8], marks: Marks) -> Marks
+    requires { ⌜ RulePacket (now packet) ⌝ }
+    ensures { λ r. ⌜ Followed (now (packet .entry)) (factCount (now (packet .entry))) marks r ⌝ }
+{
+    let count = fact_count(packet);
+    let mut more = marks;
+    for i in 0..count {
+        more = mark_fact(packet, i, more);
+    }
+    more
+}
+
+fn one_if(b: bool) -> usize
+    ensures { λ r. ⌜ r ≡ cond b 1 0 ⌝ }
+{
+    if b { 1 } else { 0 }
+}
+
+fn count_marks(marks: Marks) -> usize
+    ensures { λ r. ⌜ r ≡ marked marks 32 ⌝ }
+{
+    let mut count = 0;
+    for j in 0..32 {
+        count += one_if(is_marked(marks, j));
+    }
+    count
+}
+
+// The reached joints: the facts are gone through until a pass marks nothing more. Each pass before that marks one more of 32.
+fn reached_joints(packet: &[u8]) -> Marks
+    requires { ⌜ RulePacket (now packet) ⌝ }
+    ensures { λ r. ⌜ Closed (now (packet .entry)) r ⌝ }
+{
+    let mut marks = mark_ties(packet);
+    loop {
+        let more = mark_facts(packet, marks);
+        if count_marks(more) == count_marks(marks) {
+            return marks;
+        }
+        marks = more;
+    }
+}
+
+// The smallest of the joints that is not marked.
+fn first_unmarked(marks: Marks, joints: usize) -> Reply
+    requires { ⌜ joints ≤ 32 ⌝ }
+    ensures { λ r. ⌜ SmallestNot (Marked marks) joints r ⌝ }
+{
+    for j in 0..joints {
+        if is_marked(marks, j) {
+            continue;
+        }
+        return Reply::NotReached(j as u32);
+    }
+    Reply::Done(0)
+}
+
+// Reply 10, for a rule that no reply from 5 to 9 refuses.
+pub fn reach_reply(packet: &[u8]) -> Reply
+    requires { ⌜ RulePacket (now packet) ⌝ }
+    ensures { λ r. ⌜ ReachReply (ruleOf (now (packet .entry))) r ⌝ }
+{
+    let marks = reached_joints(packet);
+    first_unmarked(marks, byte_at(packet, 5))
 }

@@ -35,7 +35,8 @@ returns : tie.Need-returns
 returns c =
     let b = c .before in
     let p = b .before .before .before .before .args .packet .now in
-    simp (eq-eqb (L p) (4 + 2 * ties p + 4 * factCount p) (omega arith)) (ap (λ (k : ℕ). leb k 1088) (b .before .before .fact-count .ensures))
+    simp (eq-eqb (L p) (4 + 2 * ties p + 4 * factCount p) (omega arith))
+    (ap (λ (k : ℕ). leb k 1088) (b .before .before .fact-count .ensures))
 
 returns-2 : tie.Need-returns-2
 returns-2 c =

@@ -11,7 +11,8 @@ use Rattle.packets.proofs.first_bad_tie.Statement.{statement}
 use Rattle.packets.proofs.first_bad_tie.Tie as tie
 
 abbrev Inv-loop : tie.InvT-loop
-Inv-loop packet v count i₀ i = (i ≤ count) × (count ≡ ties packet) × (count < 256) × Left (tiesReply v packet) (tieFits v packet) tieAt i count
+Inv-loop packet v count i₀ i =
+    (i ≤ count) × (count ≡ ties packet) × (count < 256) × Left (tiesReply v packet) (tieFits v packet) tieAt i count
 
 abbrev μ-loop : tie.MeasureT-loop
 μ-loop packet v count i₀ i = count - i

@@ -1,5 +1,4 @@
 -- `packets::packet_reply` meets its contract: each test has the outcome of the definition's, in its order.
--- The places fit a u32, since a packet that holds as many bytes as L says has fewer than 65,538.
 -- Assumes nothing.
 use mathlib.Core.Path.{_≡_, sym, _∙_}
 use mathlib.Core.Bool.{true}
@@ -17,7 +16,6 @@ use Rattle.packets.proofs.Packet as laws
 use Rattle.packets.proofs.packet_reply.Statement.{statement}
 use Rattle.packets.proofs.packet_reply.Tie as tie
 
--- from the place behind each test back to that behind the one before it
 abbrev bytes : tie.Else1 → List ℕ
 bytes c = c .before .before .before .args .packet .now
 
@@ -184,6 +182,7 @@ first-bad-fact-requires c κs = all-inside (c .before .before .before)
 returns-8 : tie.Need-returns-8
 unfolding packetReply
 returns-8 c =
+    let ties = c .before .before .before .first-bad-tie .result in
     let e6 = c .before .before .before .before in
     let e5 = e6 .before .before in
     let e4 = e5 .before .before .before in
@@ -198,7 +197,8 @@ returns-8 c =
       count-right e6,
       sym (c .before .before .before .first-bad-tie .ensures),
     )
-    (c .first-bad-fact .ensures ∙ sym (or-second (c .before .before .before .first-bad-tie .result) _ (sym (c .before .before .is-refusal .ensures) ∙ c .before .if7 .left)))
+    (c .first-bad-fact .ensures
+    ∙ sym (or-second ties _ (sym (c .before .before .is-refusal .ensures) ∙ c .before .if7 .left)))
 
 pub packet-reply-spec : {M : Type 1} → statement M
 packet-reply-spec =

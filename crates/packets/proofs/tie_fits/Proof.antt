@@ -21,7 +21,12 @@ byte-at-requires-3 c κs = search needs
 returns : tie.Need-returns
 returns c =
     let b = c .before .before in
-    simp (sym (b .before .byte-at .ensures .0), sym (b .byte-at2 .ensures .0), lt-ltb _ _ (c .before .if1 .taken), sym (c .byte-at3 .ensures .0))
+    simp (
+      sym (b .before .byte-at .ensures .0),
+      sym (b .byte-at2 .ensures .0),
+      lt-ltb _ _ (c .before .if1 .taken),
+      sym (c .byte-at3 .ensures .0),
+    )
 
 returns-2 : tie.Need-returns-2
 returns-2 c =
