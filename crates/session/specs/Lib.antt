@@ -2,4 +2,5 @@ pub mod Block
 pub mod Nodes
 pub mod Open
 pub mod Take
+pub mod Ask
 pub mod Write
