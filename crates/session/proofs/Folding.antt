@@ -1,6 +1,6 @@
 -- Facts taken one after another in a loop: what is left to take from the form at hand decides what was to be taken from the first.
 -- Assumes nothing.
-use mathlib.Core.Path.{_≡_, refl, sym, _∙_, ap}
+use mathlib.Core.Path.{_≡_, refl, ap, subst}
 use mathlib.Core.Bool.{Bool, true, false}
 use mathlib.Core.List.{List, [], _∷_, map}
 use Prim.Native.Nat.{ℕ, zero, suc, _+_, _-_, _<_, _≤_}
@@ -54,3 +54,10 @@ module _ {n v : ℕ} {table : List ℕ} {first : Form} {all : List (Fact ℕ)} {
   -- no fact is left
   pub fold-ends : m ≤ i → Took n (meetAt n table) v first all true S
   fold-ends h = l .rest true S (rw (each-end f h) (took-taken [] S (taken-none (l .ready .well))))
+
+-- the fact that the code made is the one that was to be taken
+pub taken-as : {n v : ℕ} {meet : ℕ → ℕ → ℕ} {S T : Form} {f g : Fact ℕ} → f ≡ g → Taken n meet v S (f ∷ []) T → Taken n meet v S (g ∷ []) T
+taken-as {n} {v} {meet} {S} {T} e t = subst (λ (h : Fact ℕ). Taken n meet v S (h ∷ []) T) e t
+
+pub refuted-as : {n v : ℕ} {meet : ℕ → ℕ → ℕ} {S : Form} {f g : Fact ℕ} → f ≡ g → Refuted n meet v S (f ∷ []) → Refuted n meet v S (g ∷ [])
+refuted-as {n} {v} {meet} {S} e r = subst (λ (h : Fact ℕ). Refuted n meet v S (h ∷ [])) e r

@@ -1,0 +1,90 @@
+-- `session::take/with_facts` meets its contract. At i, the facts from i on are to be taken from the form at hand.
+-- Assumes nothing.
+use mathlib.Core.Path.{_≡_, refl, sym, _∙_, ap}
+use mathlib.Core.List.{List, [], _∷_}
+use native.Mathlib.Omega.{arith}
+use borrow.Author.Tests.{not-true, not-false}
+use Prim.Native.Nat.{_-_, _≤_}
+use Rattle.meaning.specs.Picture.{rename}
+use Rattle.meaning.specs.Form.{rigJoint}
+use Rattle.meaning.specs.Solving.{rigNumber}
+use Rattle.packets.specs.Packet.{factCount}
+use Rattle.packets.specs.Facts.{each, factOf}
+use Rattle.packets.proofs.Packet.{fact-inside}
+use Rattle.solver.specs.Unpacked.{formOf}
+use Rattle.session.proofs.Folding.{Folding, fold-begins, fold-takes, fold-clashes, fold-ends, taken-as, refuted-as}
+use Rattle.session.proofs.Taking.{nodeFactAt, packet-well, node-fact-in, all-taken}
+use Rattle.packets.specs.Facts.{each}
+use Rattle.session.proofs.Taking.{nodeFactAt, node-facts, packet-well, node-fact-in}
+use Rattle.session.proofs.take.with_facts.Statement.{statement}
+use Rattle.session.proofs.take.with_facts.Tie as tie
+
+abbrev Inv-loop : tie.InvT-loop
+Inv-loop table n v packet form₀ count i₀ form i = (i ≤ count) × (count ≡ factCount packet)
+    × Folding n table v (formOf form₀) (each (nodeFactAt packet) 0 count) (nodeFactAt packet) i count (formOf form)
+
+abbrev μ-loop : tie.MeasureT-loop
+μ-loop table n v packet form₀ count i₀ form i = count - i
+
+fact-count-requires : tie.Need-fact-count-requires Inv-loop μ-loop
+fact-count-requires c κs = (packet-well (c .before .before .pre .1)) .whole .header
+
+loop-holds : tie.Need-loop-holds Inv-loop μ-loop
+loop-holds c = (omega arith, c .fact-count .ensures, fold-begins _ _ (c .before .before .before .pre .0))
+
+fact-at-requires : tie.Need-fact-at-requires Inv-loop μ-loop
+fact-at-requires c κs = let h = (packet-well (c .before .before .before .before .before .pre .1)) .whole in (h .header, omega (arith, h .few, c .before .loop .inv .1))
+
+rig-fact-requires : tie.Need-rig-fact-requires Inv-loop μ-loop
+rig-fact-requires c κs = rw (c .fact-at .ensures .0) (fact-inside ((packet-well (c .before .before .before .before .before .before .pre .1)) .whole) (c .before .before .loop .i) (omega (arith, c .before .before .loop .inv .1)))
+
+rig-node-fact-requires : tie.Need-rig-node-fact-requires Inv-loop μ-loop
+rig-node-fact-requires c κs = tt
+
+with-fact-requires : tie.Need-with-fact-requires Inv-loop μ-loop
+with-fact-requires c κs = let l = c .before .before .before .before .loop in (
+  l .inv .2 .ready,
+  node-fact-in (packet-well (c .before .before .before .before .before .before .before .before .pre .1)) (l .i) (omega (arith, c .before .before .before .before .loop .inv .1))
+      (c .rig-node-fact .ensures ∙ ap (rename rigNumber) (c .before .rig-fact .ensures ∙ ap (factOf rigJoint _) (c .before .before .fact-at .ensures .0))),
+)
+
+returns : tie.Need-returns Inv-loop μ-loop
+returns c = let l = c .before .before .before .before .before .before .before .loop in
+    all-taken _ _ (l .inv .1) (not-true _ (c .if1 .taken))
+    (fold-clashes (l .inv .2) _ (c .before .before .before .before .before .before .loop-test .taken)
+    (refuted-as (c .before .before .before .rig-node-fact .ensures ∙ ap (rename rigNumber) (c .before .before .before .before .rig-fact .ensures ∙ ap (factOf rigJoint _) (c .before .before .before .before .before .fact-at .ensures .0))) (c .before .before .with-fact .ensures .refuted (not-true _ (c .if1 .taken)))))
+
+add-i : tie.Need-add-i Inv-loop μ-loop
+add-i c = omega arith
+
+loop-less : tie.Need-loop-less Inv-loop μ-loop
+loop-less c = omega arith
+
+loop-again : tie.Need-loop-again Inv-loop μ-loop
+loop-again c = let l = c .before .before .before .before .before .before .before .before .loop in (
+  omega arith,
+  l .inv .1,
+  fold-takes (l .inv .2) (c .before .before .before .before .before .before .before .loop-test .taken)
+      (taken-as (c .before .before .before .before .rig-node-fact .ensures ∙ ap (rename rigNumber) (c .before .before .before .before .before .rig-fact .ensures ∙ ap (factOf rigJoint _) (c .before .before .before .before .before .before .fact-at .ensures .0))) (c .before .before .before .with-fact .ensures .taken (not-false _ (c .before .if1 .left)))),
+)
+
+returns-2 : tie.Need-returns-2 Inv-loop μ-loop
+returns-2 c = all-taken _ _ (c .before .loop .inv .1) refl (fold-ends (c .before .loop .inv .2) (c .loop-test .left))
+
+pub with-facts-spec : {M : Type 1} → statement M
+with-facts-spec =
+    tie.close
+    (tie.spec
+    Inv-loop
+    μ-loop
+    fact-count-requires
+    loop-holds
+    fact-at-requires
+    rig-fact-requires
+    rig-node-fact-requires
+    with-fact-requires
+    returns
+    add-i
+    loop-less
+    loop-again
+    returns-2)
