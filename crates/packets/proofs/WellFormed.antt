@@ -13,7 +13,7 @@ use borrow.Author.Tests.{ltb-true, leb-true, eqb-true}
 use Rattle.replies.specs.Replies.{refuses, third, orElse}
 use Rattle.replies.specs.declared.Reply.{Reply}
 use Rattle.replies.specs.declared.Reply.the-variants.{Done, BadLength, BadVersion, BadHeader, BadCount, BadPart}
-use Rattle.replies.proofs.Laws.{done}
+use Rattle.replies.proofs.Laws.{or-neither, done}
 use Rattle.meaning.specs.declared.RuleJoint.{RuleJoint}
 use Rattle.meaning.specs.Picture.{Fact, rename}
 use Rattle.meaning.specs.Picture.Fact.{has-kind, same, leads}
@@ -45,14 +45,6 @@ pub record WellFormed (w : Wanted) (n v : ℕ) (p : List ℕ) : Type 0 where
 passed : (b : Bool) (x y : Reply) → refuses x ≡ true → refuses (cond (not b) x y) ≡ false → (b ≡ true) × (refuses y ≡ false)
 passed true x y r e = (refl, e)
 passed false x y r e = absurd (true≢false (sym r ∙ e))
-
--- neither of two refuses
-or-neither : (a b : Reply) → refuses (orElse a b) ≡ false → (refuses a ≡ false) × (refuses b ≡ false)
-or-neither a b = neither (refuses a) refl
-  where
-    neither : (t : Bool) → refuses a ≡ t → refuses (cond t a b) ≡ false → (refuses a ≡ false) × (refuses b ≡ false)
-    neither true q e = absurd (true≢false (sym q ∙ e))
-    neither false q e = (q, e)
 
 -- every part fits, of those from the i-th on
 fit-from :

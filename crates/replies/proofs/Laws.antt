@@ -1,6 +1,7 @@
--- The first of two replies where it refuses and the second where it does not; a reply that does not refuse is done, with its third number.
+-- The first of two replies where it refuses and the second where it does not; a reply that does not refuse is done, with its third number;
+-- and what a call of `is_refusal` tells.
 -- Assumes nothing.
-use mathlib.Core.Path.{_≡_, refl, ap}
+use mathlib.Core.Path.{_≡_, refl, sym, _∙_, ap}
 use mathlib.Core.Bool.{Bool, true, false, cond, true≢false}
 use Rattle.replies.specs.Replies.{third, refuses, orElse}
 use Rattle.replies.specs.declared.Reply.{Reply}
@@ -11,6 +12,18 @@ or-first a b e = ap (λ (t : Bool). cond t a b) e
 
 pub or-second : (a b : Reply) → refuses a ≡ false → orElse a b ≡ b
 or-second a b e = ap (λ (t : Bool). cond t a b) e
+
+-- neither of two refuses
+pub or-neither : (a b : Reply) → refuses (orElse a b) ≡ false → (refuses a ≡ false) × (refuses b ≡ false)
+or-neither a b = neither (refuses a) refl
+  where
+    neither : (t : Bool) → refuses a ≡ t → refuses (cond t a b) ≡ false → (refuses a ≡ false) × (refuses b ≡ false)
+    neither true q e = absurd (true≢false (sym q ∙ e))
+    neither false q e = (q, e)
+
+-- a call of `is_refusal` on the reply r, which is x
+pub tested : {r x : Reply} {b answer : Bool} → r ≡ x → b ≡ refuses r → b ≡ answer → refuses x ≡ answer
+tested e f g = ap refuses (sym e) ∙ sym f ∙ g
 
 pub done : (r : Reply) → refuses r ≡ false → r ≡ Done (third r)
 done (Done t) e = refl

@@ -9,7 +9,8 @@ use lib.ListN.{length}
 use borrow.Author.Tests.{eqb-true, eq-eqb, ne-eqb}
 use Rattle.replies.specs.declared.Reply.{Reply}
 use Rattle.replies.specs.declared.Reply.the-variants.{Done, BadSize, BadBlock}
-use Rattle.replies.specs.Replies.{refuses}
+use Rattle.replies.specs.Replies.{refuses, orElse}
+use Rattle.replies.proofs.Laws.{or-neither, or-second}
 use Rattle.blocks.specs.Layout.{blockSize}
 use Rattle.blocks.specs.WellFormed.{wellFormed}
 use Rattle.blocks.proofs.Shape.{WellBlock, taken-apart, put-together}
@@ -51,3 +52,8 @@ module _ (b : List ℕ) where
   pub all-well : length b ≡ blockSize → wellFormed b ≡ true → blockReply b ≡ Done 0
   unfolding blockReply
   all-well e w = rw (eq-eqb (length b) blockSize e, w)
+
+-- a call that goes on past the block's reply has a good block
+pub call-goes-on : (b : List ℕ) (next : Reply) → orElse (blockReply b) next ≡ Done 0 → GoodBlock b × (next ≡ Done 0)
+call-goes-on b next e =
+    let n = or-neither (blockReply b) next (ap refuses e) in (good-block b (n .0), sym (or-second (blockReply b) next (n .0)) ∙ e)

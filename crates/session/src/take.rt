@@ -8,10 +8,22 @@ ghost use Rattle.packets.specs.Packet.{packetReply, factsWanted};
 ghost use Rattle.packets.specs.Facts.{rigFact, rigFacts};
 ghost use Rattle.replies.specs.declared.Reply.{Reply};
 ghost use Rattle.solver.specs.Unpacked.{formOf, nodeFact, Ready, Took};
+ghost use Rattle.session.specs.Take.{takeRefusal, Take};
+ghost use Rattle.session.specs.Solve.{Solves};
+use crate::block;
+use crate::form;
 use meaning::RigFact;
+use replies::Reply;
 use solver::Next;
 use solver::NodeFact;
 use solver::Solved;
+
+// What the solver makes of a packet: the next form and the number of joins, or a clash.
+pub struct Outcome {
+    pub ok: bool,
+    pub joins: u32,
+    pub form: Solved,
+}
 
 // A fact on rig joints, as one on nodes: rig joint j is node j.
 fn rig_node_fact(fact: RigFact) -> NodeFact
@@ -40,4 +52,58 @@ fn with_facts(start: Solved, table: &[u8], n: usize, v: usize, packet: &[u8]) ->
         form = next.form;
     }
     Next { ok: true, form }
+}
+
+// Replies 1 and 4 to 9; done where none fits.
+fn refusal(block: &[u8], packet: &[u8]) -> Reply
+    ensures { λ r. ⌜ r ≡ takeRefusal (now (block .entry)) (now (packet .entry)) ⌝ }
+{
+    let reply = block::block_reply(block);
+    if replies::is_refusal(reply) {
+        return reply;
+    }
+    packets::facts_reply(packet, block[0] as usize, block[1] as usize)
+}
+
+// The packet's facts taken with those of the block.
+fn solve(block: &[u8], packet: &[u8]) -> Outcome
+    requires { ⌜ takeRefusal (now block) (now packet) ≡ Reply.Done 0 ⌝ }
+    ensures { λ r. ⌜ Solves (now (block .entry)) (now (packet .entry)) (r .ok) (r .joins) (r .form) ⌝ }
+{
+    let n = block[0] as usize;
+    let v = block[1] as usize;
+    let start = form::unpack(block, v, 0);
+    let end = 1154 + n * n;
+    let next = with_facts(start, &block[1154..end], n, v, packet);
+    let form = next.form;
+    if !next.ok {
+        return Outcome {
+            ok: false,
+            joins: 0,
+            form,
+        };
+    }
+    let joins = solver::classes_in(start, v) - solver::classes_in(form, v);
+    Outcome {
+        ok: true,
+        joins: joins as u32,
+        form,
+    }
+}
+
+// Takes all facts of the packet, or none.
+pub fn take(block: &mut [u8], packet: &[u8]) -> Reply
+    ensures { λ r. ⌜ Take (now (block .entry)) (now (packet .entry)) r (now (block .exit)) ⌝ }
+{
+    let reply = refusal(block, packet);
+    if replies::is_refusal(reply) {
+        return reply;
+    }
+    let outcome = solve(block, packet);
+    if !outcome.ok {
+        return Reply::Clash;
+    }
+    let form = outcome.form;
+    form::pack(block, form);
+    Reply::Done(outcome.joins)
 }

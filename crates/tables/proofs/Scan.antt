@@ -111,7 +111,3 @@ module _ {n : ℕ} {table : List ℕ} {r : Reply} {g : ℕ → Law} {i m : ℕ} 
 -- a breach found at the place that the law names
 pub told : {r : Reply} {p q : ℕ} → p ≡ q → r ≡ LawBroken q → LawBroken p ≡ r
 told e f = cc
-
--- what a call of `is_refusal` on a part's reply tells of that part
-pub tested : {r x : Reply} {b answer : Bool} → r ≡ x → b ≡ refuses r → b ≡ answer → refuses x ≡ answer
-tested e f g = ap refuses (sym e) ∙ sym f ∙ g

@@ -3,7 +3,8 @@
 use mathlib.Core.Path.{_∙_, sym}
 use mathlib.Core.List.{_++_}
 use Rattle.tables.specs.Check.{entries, firsts, pairs, triples}
-use Rattle.tables.proofs.Scan.{first-of, second-of, tested}
+use Rattle.replies.proofs.Laws.{tested}
+use Rattle.tables.proofs.Scan.{first-of, second-of}
 use Rattle.tables.proofs.Lawfulness.{passes-kept, kept-entries}
 use borrow.Author.Needs.{needs}
 use Rattle.tables.proofs.check.Statement.{statement}

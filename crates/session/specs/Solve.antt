@@ -1,0 +1,21 @@
+-- What the solver makes of a packet, in the words of the contract of taking. No call cites this.
+-- Assumes nothing.
+use mathlib.Core.Path.{_≡_}
+use mathlib.Core.Bool.{Bool, true, false}
+use mathlib.Core.List.{List, _++_}
+use Prim.Native.Nat.{ℕ, _-_}
+use Rattle.meaning.specs.Picture.{Clash, Every}
+use Rattle.packets.specs.Facts.{rigFacts}
+use Rattle.solver.specs.declared.Solved.{Solved}
+use Rattle.blocks.specs.Layout.{kindsOf, withForm}
+use Rattle.session.specs.Block.{meetOf, taken, classCount}
+use Rattle.session.specs.Take.{After}
+
+-- the block with a form in it
+abbrev pub withSolved : List ℕ → Solved → List ℕ
+withSolved b form = withForm b (form .class) (form .kind) (form .link)
+
+pub record Solves (b p : List ℕ) (ok : Bool) (joins : ℕ) (form : Solved) : Type 0 where
+  pub clash : ok ≡ false → Clash {n = kindsOf b} (meetOf b) Every (taken b ++ rigFacts p)
+  pub after : ok ≡ true → After b (rigFacts p) (withSolved b form)
+  pub count : ok ≡ true → joins ≡ classCount b - classCount (withSolved b form)
