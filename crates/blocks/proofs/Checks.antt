@@ -1,19 +1,23 @@
--- Reading a form's numbers from a block's bytes, and loops that check: the answer is that of what is left to check, and each turn leaves one less.
+-- What the functions on blocks stand on. Checking: the answer is that to what is left to check, and each turn of a loop leaves one less.
+-- Writing: each turn stores one more byte of the part that is wanted, and each part stands behind those that are written.
 -- Assumes nothing.
 use mathlib.Core.Path.{_≡_, refl, ap, _∙_, sym}
+use mathlib.Core.Logic.{by-cases}
 use mathlib.Core.Bool.{Bool, true, false, not, cond, _&&_, _||_, and-eq-true-iff}
-use mathlib.Core.List.{List}
+use mathlib.Core.List.{List, [], _∷_, _++_, append-assoc, append-nil}
 use Prim.Native.Nat.{ℕ, zero, suc, _+_, _-_, _*_, _≤_, _<_}
 use native.Mathlib.Omega.{arith}
+use native.Mathlib.Decide.{ℕ-discrete, decLt}
+use native.Mathlib.Nat.{not-suc-le-zero, le-of-suc-le-suc, add-zero}
 use native.Mathlib.Numerals.{add-one}
 use lib.Dec.{eqb, leb, ltb}
-use lib.ListN.{getD, take, drop}
-use lib.Seq.{getD-take, getD-drop}
+use lib.ListN.{length, getD, take, drop, set, replicate, length-append, length-set, length-replicate, getD-replicate, drop-of-length-le, List·getD-eq-default}
+use lib.Seq.{getD-take, getD-drop, getD-set-same, getD-set-other, ext-getD, take-at, drop-at, drop-drop}
 use borrow.Author.Tests.{lt-ltb, le-ltb, lt-leb, le-leb, eq-eqb, ne-eqb, not-true, not-false, leb-true}
 use Rattle.replies.specs.Replies.{refuses}
 use Rattle.tables.specs.Check.{tableReply}
 use Rattle.meaning.specs.Form.{Form}
-use Rattle.blocks.specs.Layout.{kindsOf, jointsOf, blockForm}
+use Rattle.blocks.specs.Layout.{kindsOf, jointsOf, blockForm, tabulate, freshBlock}
 use Rattle.blocks.specs.WellFormed.{all, smallest, classFits, kindFits, linkFits, jointFits, wellFormed}
 
 -- byte i of a part of a block is the byte that stands there in the block
@@ -105,3 +109,110 @@ by-clauses b {r} {n} {v} en ev a = a ∙ ap (λ (k : ℕ). clauses b k v) en ∙
 pub within : {low x high : ℕ} {t : Bool} → t ≡ (leb low x && leb x high) → not t ≡ false → (low ≤ x) × (x ≤ high)
 within {low} {x} {high} {t} e h =
     let a = and-eq-true-iff (leb low x) (leb x high) .0 (sym e ∙ not-false t h) in (leb-true low x (a .0), leb-true x high (a .1))
+
+-- a loop at i that stores the m bytes of ys: xs has as many, and the same below i
+pub record Filling (ys : List ℕ) (m i : ℕ) (xs : List ℕ) : Type 0 where
+  pub wanted : length ys ≡ m
+  pub size : length xs ≡ m
+  pub same : (k : ℕ) → k < i → getD xs k 0 ≡ getD ys k 0
+
+pub none-stored : {ys : List ℕ} {m : ℕ} {xs : List ℕ} → length ys ≡ m → length xs ≡ m → Filling ys m 0 xs
+none-stored w e = record { wanted = w; size = e; same = λ k h. absurd (not-suc-le-zero h) }
+
+module _ {ys : List ℕ} {m i : ℕ} {xs : List ℕ} (l : Filling ys m i xs) where
+  pub stored : {x : ℕ} → i < m → x ≡ getD ys i 0 → Filling ys m (i + 1) (set xs i x)
+  stored {x} h e =
+      record {
+        wanted = l .wanted;
+        size = length-set xs i x ∙ l .size;
+        same = λ k g.
+            by-cases (ℕ-discrete k i)
+            (λ q. rw q (getD-set-same xs i x 0 (omega (arith, l .size)) ∙ e))
+            (λ d. getD-set-other xs i k x 0 d ∙ l .same k (omega arith));
+      }
+
+  pub all-stored : m ≤ i → xs ≡ ys
+  all-stored h = ext-getD 0 xs ys (l .size ∙ sym (l .wanted)) (λ k g. l .same k (omega (arith, l .size)))
+
+-- the classes and the kinds of a fresh block
+abbrev pub ownClasses : ℕ → List ℕ
+ownClasses v = tabulate (λ j. cond (ltb j v) j 0) 0 64
+
+abbrev pub anyKinds : ℕ → List ℕ
+anyKinds v = tabulate (λ j. cond (ltb j v) 1 0) 0 64
+
+-- the parts of a fresh block, by their bytes
+pub both-set : (xs : List ℕ) (n v : ℕ) → length xs ≡ 2 → set (set xs 0 n) 1 v ≡ n ∷ v ∷ []
+both-set [] n v e = absurd (omega arith)
+both-set (x ∷ []) n v e = absurd (omega arith)
+both-set (x ∷ y ∷ []) n v e = refl
+both-set (x ∷ y ∷ z ∷ xs) n v e = absurd (omega arith)
+
+pub tabulate-length : (f : ℕ → ℕ) (i count : ℕ) → length (tabulate f i count) ≡ count
+unfolding tabulate
+tabulate-length f i zero = refl
+tabulate-length f i (suc count) = ap suc (tabulate-length f (suc i) count)
+
+tabulate-from : (f : ℕ → ℕ) (count i k : ℕ) → k < count → f (i + k) ≡ getD (tabulate f i count) k 0
+unfolding tabulate
+tabulate-from f zero i k h = absurd (not-suc-le-zero h)
+tabulate-from f (suc count) i zero h = ap f (add-zero i)
+tabulate-from f (suc count) i (suc k) h =
+    let e : i + suc k ≡ suc i + k = omega arith in ap f e ∙ tabulate-from f count (suc i) k (le-of-suc-le-suc h)
+
+pub tabulate-at : (f : ℕ → ℕ) (count k : ℕ) → k < count → f k ≡ getD (tabulate f 0 count) k 0
+tabulate-at f count k h = let e : k ≡ 0 + k = omega arith in ap f e ∙ tabulate-from f count 0 k h
+
+zeros-at : (m k : ℕ) → _≡_ {A = ℕ} 0 (getD (replicate m 0) k 0)
+zeros-at zero k = refl
+zeros-at (suc m) zero = refl
+zeros-at (suc m) (suc k) = zeros-at m k
+
+-- zeros behind a list change no byte read with default 0
+pub padded-at : (xs : List ℕ) (m k : ℕ) → getD xs k 0 ≡ getD (xs ++ replicate m 0) k 0
+padded-at [] m k = zeros-at m k
+padded-at (x ∷ xs) m zero = refl
+padded-at (x ∷ xs) m (suc k) = padded-at xs m k
+
+pub repeated-at : (count m x k : ℕ) → cond (ltb k count) x 0 ≡ getD (replicate count x ++ replicate m 0) k 0
+repeated-at count m x k =
+    by-cases (decLt k count)
+    (λ h. rw (lt-ltb k count h) (sym (getD-replicate count k x 0 h)))
+    (λ h. rw (le-ltb k count (omega arith)) (sym (List·getD-eq-default (replicate count x) 0 (omega (arith, length-replicate count x)))))
+    ∙ padded-at (replicate count x) m k
+
+-- b is b₀ with the bytes of done, of which there are at, in front
+pub record Written (b₀ done : List ℕ) (at : ℕ) (b : List ℕ) : Type 0 where
+  pub size : length done ≡ at
+  pub is : b ≡ done ++ drop at b₀
+
+pub none-written : (b : List ℕ) → Written b [] 0 b
+none-written b = record { size = refl; is = refl }
+
+-- a part is written behind what is done
+pub part-written :
+    {b₀ done b : List ℕ} {at : ℕ} → Written b₀ done at b → (k : ℕ) {part ys : List ℕ} → part ≡ ys → length ys ≡ k
+    → Written b₀ (done ++ ys) (at + k) (take at b ++ (part ++ drop k (drop at b)))
+part-written {b₀} {done} {b} {at} w k {part} {ys} e h =
+    let t : take at b ≡ done = ap (take at) (w .is) ∙ take-at done _ at (w .size) in
+    let d : drop at b ≡ drop at b₀ = ap (drop at) (w .is) ∙ drop-at done _ at (w .size) in
+    record {
+      size = length-append done ys ∙ omega (arith, w .size, h);
+      is = rw (t, d, e, drop-drop) (sym (append-assoc done ys (drop (at + k) b₀)));
+    }
+
+pub all-written : {b₀ done b : List ℕ} {at : ℕ} → Written b₀ done at b → length b₀ ≤ at → b ≡ done
+all-written {b₀} {done} w h = w .is ∙ ap (λ (x : List ℕ). done ++ x) (drop-of-length-le b₀ h) ∙ append-nil done
+
+regroup : (a b c d e : List ℕ) → ((a ++ b) ++ (c ++ d)) ++ e ≡ a ++ (b ++ (c ++ (d ++ e)))
+regroup a b c d e = simp append-assoc
+
+-- the parts of a fresh block, one after the other
+pub in-order :
+    (n v : ℕ) (table : List ℕ)
+    → ((((n ∷ v ∷ []) ++ ownClasses v) ++ anyKinds v) ++ (replicate (16 * v) 255 ++ replicate (1024 - 16 * v) 0))
+    ++ (table ++ replicate (4096 - length table) 0)
+    ≡ freshBlock n v table
+in-order n v table =
+    ap (λ (bytes : List ℕ). n ∷ v ∷ bytes)
+    (regroup (ownClasses v) (anyKinds v) (replicate (16 * v) 255) (replicate (1024 - 16 * v) 0) (table ++ replicate (4096 - length table) 0))

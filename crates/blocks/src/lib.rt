@@ -1,12 +1,13 @@
 // Session blocks: whether one is well formed, and writing a fresh one.
 ghost use mathlib.Core.Path.{_≡_};
-ghost use mathlib.Core.Bool.{not, _&&_};
+ghost use mathlib.Core.Bool.{not, cond, _&&_};
+ghost use mathlib.Core.List.{[], _∷_, _++_};
 ghost use Prim.Native.Nat.{_+_, _-_, _*_, _<_, _≤_};
-ghost use lib.Dec.{eqb, leb};
-ghost use lib.ListN.{length, getD, take, drop};
+ghost use lib.Dec.{eqb, leb, ltb};
+ghost use lib.ListN.{length, getD, take, drop, replicate};
 ghost use Rattle.replies.specs.Replies.{refuses};
-ghost use Rattle.tables.specs.Check.{tableReply};
-ghost use Rattle.blocks.specs.Layout.{kindsOf, blockForm};
+ghost use Rattle.tables.specs.Check.{Sized, tableReply};
+ghost use Rattle.blocks.specs.Layout.{kindsOf, blockForm, tabulate, freshBlock};
 ghost use Rattle.blocks.specs.WellFormed.{all, smallest, classFits, kindFits, linkFits, jointFits, wellFormed};
 
 fn wide(x: u8) -> usize
@@ -157,6 +158,7 @@ fn table_passes(block: &[u8], n: usize) -> bool
     !replies::is_refusal(reply)
 }
 
+// Whether x is from low to high.
 fn in_range(x: usize, low: usize, high: usize) -> bool
     ensures { λ r. ⌜ r ≡ (leb low x && leb x high) ⌝ }
 {
@@ -186,4 +188,86 @@ pub fn well_formed(block: &[u8]) -> bool
         return false;
     }
     rest_is_zero(block, n)
+}
+
+// The byte x where there is something, else 0.
+fn or_zero(some: bool, x: u8) -> u8
+    ensures { λ r. ⌜ r ≡ cond some x 0 ⌝ }
+{
+    if some {
+        return x;
+    }
+    0
+}
+
+// Byte p of the table, or 0 where it has ended.
+fn table_byte(table: &[u8], p: usize) -> u8
+    ensures { λ r. ⌜ r ≡ getD (now (table .entry)) p 0 ⌝ }
+{
+    if table.len() <= p {
+        return 0;
+    }
+    table[p]
+}
+
+// The numbers of kinds and of joints.
+fn write_sizes(part: &mut [u8], n: u8, v: u8)
+    requires { ⌜ length (now part) ≡ 2 ⌝ }
+    ensures { λ _. ⌜ now (part .exit) ≡ n ∷ v ∷ [] ⌝ }
+{
+    part[0] = n;
+    part[1] = v;
+}
+
+// Each joint is a class of its own.
+fn write_classes(part: &mut [u8], v: usize)
+    requires { ⌜ length (now part) ≡ 64 ⌝ }
+    ensures { λ _. ⌜ now (part .exit) ≡ tabulate (λ j. cond (ltb j v) j 0) 0 64 ⌝ }
+{
+    for j in 0..64 {
+        part[j] = or_zero(j < v, j as u8);
+    }
+}
+
+// Each class has kind 1.
+fn write_kinds(part: &mut [u8], v: usize)
+    requires { ⌜ length (now part) ≡ 64 ⌝ }
+    ensures { λ _. ⌜ now (part .exit) ≡ tabulate (λ j. cond (ltb j v) 1 0) 0 64 ⌝ }
+{
+    for j in 0..64 {
+        part[j] = or_zero(j < v, 1);
+    }
+}
+
+// No link of any class is known.
+fn write_rows(part: &mut [u8], v: usize)
+    requires { ⌜ (length (now part) ≡ 1024) × (v ≤ 64) ⌝ }
+    ensures { λ _. ⌜ now (part .exit) ≡ replicate (16 * v) 255 ++ replicate (1024 - 16 * v) 0 ⌝ }
+{
+    for p in 0..1024 {
+        part[p] = or_zero(p < 16 * v, 255);
+    }
+}
+
+// The table, and zeros behind it.
+fn write_table(part: &mut [u8], table: &[u8])
+    requires { ⌜ (length (now part) ≡ 4096) × (length (now table) ≤ 4096) ⌝ }
+    ensures { λ _. ⌜ now (part .exit) ≡ now (table .entry) ++ replicate (4096 - length (now (table .entry))) 0 ⌝ }
+{
+    for p in 0..4096 {
+        part[p] = table_byte(table, p);
+    }
+}
+
+// Writes the whole block as opening leaves it.
+pub fn write_fresh(n: u8, v: u8, table: &[u8], block: &mut [u8])
+    requires { ⌜ length (now block) ≡ 5250 ⌝ ∗ ⌜ Sized n (now table) ⌝ ∗ ⌜ (1 ≤ v) × (v ≤ 64) ⌝ }
+    ensures { λ _. ⌜ now (block .exit) ≡ freshBlock n v (now (table .entry)) ⌝ }
+{
+    let joints = v as usize;
+    write_sizes(&mut block[0..2], n, v);
+    write_classes(&mut block[2..66], joints);
+    write_kinds(&mut block[66..130], joints);
+    write_rows(&mut block[130..1154], joints);
+    write_table(&mut block[1154..5250], table);
 }

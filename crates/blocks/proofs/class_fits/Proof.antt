@@ -1,5 +1,6 @@
 -- `blocks::class_fits` meets its contract: the tests of a class number, in turn.
 -- Assumes nothing.
+use native.Mathlib.Omega.{arith}
 use Rattle.blocks.specs.Layout.{kindsOf, blockForm}
 use Rattle.blocks.proofs.Checks.{class-behind, class-above, class-below}
 use borrow.Author.Needs.{needs}
@@ -15,7 +16,7 @@ returns c = let b = c .before .before .before .args .block .now in
 
 returns-2 : tie.Need-returns-2
 returns-2 c = let b = c .before .before .before .before .args .block .now in
-    class-above (kindsOf b) _ (blockForm b) _ (c .before .if1 .left) (c .before .before .class-at .ensures) (c .if2 .taken)
+    class-above (kindsOf b) _ (blockForm b) _ (c .before .if1 .left) (c .before .before .class-at .ensures) (omega arith)
 
 is-smallest-requires : tie.Need-is-smallest-requires
 is-smallest-requires c κs = search needs
@@ -23,7 +24,7 @@ is-smallest-requires c κs = search needs
 returns-3 : tie.Need-returns-3
 returns-3 c = let b = c .before .before .before .before .before .args .block .now in
     class-below (kindsOf b) _ (blockForm b) _
-    (c .before .before .if1 .left) (c .before .before .before .class-at .ensures) (c .before .if2 .left) (c .is-smallest .ensures)
+    (c .before .before .if1 .left) (c .before .before .before .class-at .ensures) (omega arith) (c .is-smallest .ensures)
 
 pub class-fits-spec : {M : Type 1} → statement M
 class-fits-spec =

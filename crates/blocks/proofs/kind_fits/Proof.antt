@@ -1,6 +1,7 @@
 -- `blocks::kind_fits` meets its contract: the tests of a kind, in turn.
 -- Assumes nothing.
 use mathlib.Core.Path.{_∙_, sym}
+use native.Mathlib.Omega.{arith}
 use borrow.Author.Tests.{not-true, not-false}
 use Rattle.blocks.specs.Layout.{blockForm}
 use Rattle.blocks.proofs.Checks.{kind-of-other, kind-none, kind-some}
@@ -21,12 +22,12 @@ returns c = let a = sym (not-true _ (c .if1 .taken)) ∙ c .before .is-smallest 
 returns-2 : tie.Need-returns-2
 returns-2 c = let a = sym (not-false _ (c .before .if1 .left)) ∙ c .before .before .is-smallest .ensures in
     kind-none _ _ (blockForm (c .before .before .before .before .before .args .block .now)) _
-    a (c .before .before .before .kind-at .ensures) (c .if2 .taken)
+    a (c .before .before .before .kind-at .ensures) (omega arith)
 
 returns-3 : tie.Need-returns-3
 returns-3 c = let a = sym (not-false _ (c .before .if1 .left)) ∙ c .before .before .is-smallest .ensures in
     kind-some _ _ (blockForm (c .before .before .before .before .before .args .block .now)) _
-    a (c .before .before .before .kind-at .ensures) (c .if2 .left)
+    a (c .before .before .before .kind-at .ensures) (omega arith)
 
 pub kind-fits-spec : {M : Type 1} → statement M
 kind-fits-spec =
