@@ -4,3 +4,4 @@ pub mod Unpacking
 pub mod Folding
 pub mod Taking
 pub mod Outcome
+pub mod Opening
