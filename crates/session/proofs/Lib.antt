@@ -5,3 +5,4 @@ pub mod Folding
 pub mod Taking
 pub mod Outcome
 pub mod Opening
+pub mod OneTake
