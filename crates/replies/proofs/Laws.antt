@@ -2,7 +2,7 @@
 -- and what a call of `is_refusal` tells.
 -- Assumes nothing.
 use mathlib.Core.Path.{_≡_, refl, sym, _∙_, ap}
-use mathlib.Core.Bool.{Bool, true, false, cond, true≢false}
+use mathlib.Core.Bool.{Bool, true, false, cond, true≢false, false≢true}
 use Rattle.replies.specs.Replies.{third, refuses, orElse}
 use Rattle.replies.specs.declared.Reply.{Reply}
 use Rattle.replies.specs.declared.Reply.the-variants.{Done, BadSize, NoKind, LawBroken, BadBlock, BadLength, BadVersion, BadHeader, BadCount, BadPart, NotReached, Clash, ShortOutput}
@@ -39,3 +39,19 @@ done (BadPart p) e = absurd (true≢false e)
 done (NotReached j) e = absurd (true≢false e)
 done Clash e = absurd (true≢false e)
 done ShortOutput e = absurd (true≢false e)
+
+-- a refusal has third 0
+pub refusal-third : (r : Reply) → refuses r ≡ true → third r ≡ 0
+refusal-third (Done t) e = absurd (false≢true e)
+refusal-third BadSize e = refl
+refusal-third (NoKind p) e = refl
+refusal-third (LawBroken p) e = refl
+refusal-third BadBlock e = refl
+refusal-third BadLength e = refl
+refusal-third BadVersion e = refl
+refusal-third (BadHeader p) e = refl
+refusal-third BadCount e = refl
+refusal-third (BadPart p) e = refl
+refusal-third (NotReached j) e = refl
+refusal-third Clash e = refl
+refusal-third ShortOutput e = refl

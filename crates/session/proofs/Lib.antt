@@ -6,3 +6,4 @@ pub mod Taking
 pub mod Outcome
 pub mod Opening
 pub mod OneTake
+pub mod Thirds

@@ -57,6 +57,13 @@ module _ (n v : ℕ) (table b : List ℕ) where
       by-sizes true q = (fitting q, passes-done n table (inOrder n) (ap refuses (sym (then-table q)) ∙ e))
       by-sizes false q = absurd (true≢false (ap refuses (sym (not-fitting q)) ∙ e))
 
+  pub opens-table : refuses (openReply n v table b) ≡ false → openReply n v table b ≡ tableReply n table
+  opens-table e = by-sizes (sizesFit n v table b) refl
+    where
+      by-sizes : (t : Bool) → sizesFit n v table b ≡ t → openReply n v table b ≡ tableReply n table
+      by-sizes true q = then-table q
+      by-sizes false q = absurd (true≢false (ap refuses (sym (not-fitting q)) ∙ e))
+
   pub stays : refuses (openReply n v table b) ≡ true → b ≡ openBlock n v table b
   unfolding openBlock
   stays e = sym (ap (λ (t : Bool). cond t b (freshBlock n v table)) e)

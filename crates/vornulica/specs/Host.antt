@@ -1,0 +1,21 @@
+-- What the host gets: the reply of a call, packed into one number.
+-- Assumes nothing.
+use mathlib.Core.Path.{_≡_}
+use mathlib.Core.List.{List}
+use Prim.Native.Nat.{ℕ}
+use Rattle.replies.specs.declared.Reply.{Reply}
+use Rattle.replies.specs.Replies.{packed}
+use Rattle.session.specs.Take.{Take}
+use Rattle.session.specs.Ask.{Ask}
+
+-- the number is that of a reply that taking the packet may give, with this block afterwards
+pub record TakeNumber (b p : List ℕ) (number : ℕ) (after : List ℕ) : Type 0 where
+  pub reply : Reply
+  pub takes : Take b p reply after
+  pub told : number ≡ packed reply
+
+-- the number is that of a reply that asking the packet may give
+pub record AskNumber (b p : List ℕ) (number : ℕ) : Type 0 where
+  pub reply : Reply
+  pub asks : Ask b p reply
+  pub told : number ≡ packed reply

@@ -1,0 +1,17 @@
+-- The house table handed to the host: 1 unless the buffer has exactly 1,089 bytes, otherwise done with the table written.
+-- Assumes nothing.
+use mathlib.Core.Bool.{cond}
+use mathlib.Core.List.{List}
+use Prim.Native.Nat.{ℕ}
+use lib.Dec.{eqb}
+use lib.ListN.{length}
+use Rattle.replies.specs.declared.Reply.{Reply}
+use Rattle.replies.specs.declared.Reply.the-variants.{Done, BadSize}
+use Rattle.house.specs.Meets.{houseTable}
+
+abbrev pub houseReply : List ℕ → Reply
+houseReply buffer = cond (eqb (length buffer) 1089) (Done 0) BadSize
+
+-- the buffer afterwards
+abbrev pub houseBuffer : List ℕ → List ℕ
+houseBuffer buffer = cond (eqb (length buffer) 1089) houseTable buffer

@@ -1,0 +1,35 @@
+// The library for a C or C++ host: every call on byte slices, its answer packed into one number. Nothing is asked of what the host lends.
+ghost use mathlib.Core.Path.{_≡_};
+ghost use Rattle.replies.specs.Replies.{packed};
+ghost use Rattle.session.specs.Open.{openReply, openBlock};
+ghost use Rattle.vornulica.specs.House.{houseReply, houseBuffer};
+ghost use Rattle.vornulica.specs.Host.{TakeNumber};
+use replies::Reply;
+
+// Opens a session of v joints with a table of n kinds over the block.
+#[no_mangle]
+pub extern "C" fn rig_open(n: u64, v: u64, table: &[u8], block: &mut [u8]) -> u64
+    ensures { λ r. ⌜ (r ≡ packed (openReply n v (now (table .entry)) (now (block .entry)))) × (now (block .exit) ≡ openBlock n v (now (table .entry)) (now (block .entry))) ⌝ }
+{
+    replies::to_host(session::open::open(n, v, table, block))
+}
+
+// Takes all facts of the packet into the session, or none.
+#[no_mangle]
+pub extern "C" fn rig_take(block: &mut [u8], packet: &[u8]) -> u64
+    ensures { λ r. ⌜ TakeNumber (now (block .entry)) (now (packet .entry)) r (now (block .exit)) ⌝ }
+{
+    replies::to_host(session::take::take(block, packet))
+}
+
+// Writes the house table, 33 × 33 bytes.
+#[no_mangle]
+pub extern "C" fn rig_house(table: &mut [u8]) -> u64
+    ensures { λ r. ⌜ (r ≡ packed (houseReply (now (table .entry)))) × (now (table .exit) ≡ houseBuffer (now (table .entry))) ⌝ }
+{
+    if table.len() != 1089 {
+        return replies::to_host(Reply::BadSize);
+    }
+    session::form::copy_front(table, &house::table());
+    replies::to_host(Reply::Done(0))
+}
