@@ -20,14 +20,14 @@ use Rattle.meaning.specs.declared.Verdict.the-variants.{Applies, RuledOut, Wait
 use Rattle.meaning.specs.Picture.{Fact, rename, Every}
 use Rattle.meaning.specs.Picture.Fact.{has-kind, same, leads}
 use Rattle.meaning.specs.Rule.{ruleJoint, Judged, verdictNumber}
-use Rattle.meaning.specs.Form.{Form}
-use Rattle.meaning.specs.Solving.{InRange, AllInRange, Taken}
+use Rattle.meaning.specs.Form.{Form, unknown}
+use Rattle.meaning.specs.Solving.{InRange, Taken}
 use Rattle.meaning.specs.Asking.{TiesInRange, RuleInRange, ruleNumber, ruleNode, tieFact, ruleNodeFacts, Extends, Settled}
 use Rattle.meaning.proofs.Canon.{applies-not-ruled-out}
 use Rattle.meaning.proofs.Extend.{extend-well}
 use Rattle.meaning.proofs.Asked.{clash-ruled-out, taken-not-out, settled-applies, applies-settled}
 use Rattle.meaning.proofs.Takes.{taken-then, refuted-then, refuted-more}
-use Rattle.packets.specs.Packet.{byte, ties, joints, tieAt, factAt, factCount, packetReply, ruleWanted}
+use Rattle.packets.specs.Packet.{ties, joints, tieAt, factAt, factCount, packetReply, ruleWanted}
 use Rattle.packets.specs.Facts.{factOf, each, tieOf, ruleOf}
 use Rattle.packets.specs.Reached.{ReachReply}
 use Rattle.packets.specs.Marking.{nthFact}
@@ -55,12 +55,13 @@ module _
   pub fold-stops : ok ≡ false → Took n (meetAt n table) v first all ok T
   fold-stops q = rw q (fold-clashes l T h (rw e at (t .refuted q)))
 
--- a fact on nodes, where the fact on the rule's joints is in range
+-- a fact on nodes is in range, where the fact on the rule's joints is in range
 node-range : (n v k : ℕ) (f : Fact RuleJoint) → InRange n k (rename ruleNumber f) → InRange n (v + k) (rename (ruleNode v) f)
 node-range n v k (has-kind a s) r = (omega (arith, r .0), r .1)
 node-range n v k (same a b) r = (omega (arith, r .0), omega (arith, r .1))
 node-range n v k (leads a l c) r = (omega (arith, r .0), r .1, omega (arith, r .2))
 
+-- in range of more joints
 wider : (n k m : ℕ) → k ≤ m → (f : Fact ℕ) → InRange n k f → InRange n m f
 wider n k m h (has-kind a s) r = (omega (arith, r .0), r .1)
 wider n k m h (same a b) r = (omega (arith, r .0), omega (arith, r .1))
@@ -78,7 +79,7 @@ nodeTie v p i = tieFact v (tieOf p (tieAt i))
 abbrev pub nodeRuleFact : ℕ → List ℕ → ℕ → Fact ℕ
 nodeRuleFact v p i = rename (ruleNode v) (nthFact p i)
 
--- a rule that no reply from 5 to 9 refuses, for n kinds and v rig joints
+-- the numbers of a rule that no reply from 5 to 9 refuses, for n kinds and v rig joints
 pub rule-fits : (n v : ℕ) (p : List ℕ) → packetReply ruleWanted n v p ≡ Done 0 → WellFormed ruleWanted n v p
 rule-fits n v p e = well-formed ruleWanted n v p (ap refuses e)
 
@@ -92,9 +93,9 @@ module _ {n v : ℕ} {p : List ℕ} (w : WellFormed ruleWanted n v p) where
       ap (rename ruleNumber) (fact-named ruleJoint p (factAt p i)) ∙ named-back _ in
       rw q (w .fact i h)
 
-  -- the joints of a rule are below 32, so that no sum with a rig's joint count is too large for a byte
-  pub fact-small : (i : ℕ) → i < factCount p → InRange n 128 (rename ruleNumber (nthFact p i))
-  fact-small i h = wider n (joints p) 128 (omega (arith, w .joints-to)) (rename ruleNumber (nthFact p i)) (fact-range i h)
+  -- a rule has at most 32 joints
+  pub fact-small : (i : ℕ) → i < factCount p → InRange n 32 (rename ruleNumber (nthFact p i))
+  fact-small i h = wider n (joints p) 32 (w .joints-to) (rename ruleNumber (nthFact p i)) (fact-range i h)
 
   pub node-fact-range : (i : ℕ) → i < factCount p → InRange n (v + joints p) (nodeRuleFact v p i)
   node-fact-range i h = node-range n v (joints p) (nthFact p i) (fact-range i h)
@@ -153,7 +154,7 @@ module _ (v : ℕ) (s t : Solved) where
       let b : i % 16 < 16 = mod-lt i (omega arith) in
       rw e at (q .link (i / 16) (i % 16) (omega arith) b)
 
--- with the rule's joints
+-- the rig's part with the rule's joints, and without them
 pub with-inside : {v k : ℕ} {S T : Form} → Settled v 0 S T → ((i : ℕ) → i < k → T .class (v + i) < v) → Settled v k S T
 with-inside q f = record { class = q .class; kind = q .kind; link = q .link; inside = f }
 
@@ -214,6 +215,9 @@ module _ {b p : List ℕ} (a : Asked b p) where
   pub asked-nodes : jointsOf b + joints p ≤ 96
   asked-nodes = omega (arith, a .good .well .v-high, asked-rule .joints-to)
 
+  small : jointsOf b + joints p ≤ unknown
+  small = omega (arith, asked-nodes)
+
   in-range : RuleInRange (kindsOf b) (jointsOf b) (ruleOf p)
   in-range =
       record {
@@ -266,25 +270,23 @@ module _ {b p : List ℕ} (a : Asked b p) where
       pub ruled-out : ok ≡ false → Judged {n = kindsOf b} (meetOf b) Every (taken b) (ruleOf p) RuledOut
       ruled-out e =
           let w = a .good .well in
-          clash-ruled-out (block-lawful w) (two-kinds w) (some-joint w) (w .well) in-range (omega (arith, asked-nodes)) x (t .refuted e)
+          clash-ruled-out (block-lawful w) (two-kinds w) (some-joint w) (w .well) in-range small x (t .refuted e)
 
-      pub applies : ok ≡ true → Settled (jointsOf b) (joints p) E T → Judged {n = kindsOf b} (meetOf b) Every (taken b) (ruleOf p) Applies
+      pub applies :
+          ok ≡ true → Settled (jointsOf b) (joints p) E T → Judged {n = kindsOf b} (meetOf b) Every (taken b) (ruleOf p) Applies
       applies e q =
           let w = a .good .well in
-          settled-applies (block-lawful w) (two-kinds w) (some-joint w) (w .well) in-range (omega (arith, asked-nodes)) x (t .taken e)
-          (same-start q)
+          settled-applies (block-lawful w) (two-kinds w) (some-joint w) (w .well) in-range small x (t .taken e) (same-start q)
 
       pub waits :
           ok ≡ true → ReachReply (ruleOf p) (Done 0) → (Settled (jointsOf b) (joints p) E T → ⊥) →
           Judged {n = kindsOf b} (meetOf b) Every (taken b) (ruleOf p) Waits
       waits e reach d =
-          let w = a .good .well in (
-            λ y.
-                d
-                (start-same
-                (applies-settled (block-lawful w) (two-kinds w) (some-joint w) (w .well) in-range (omega (arith, asked-nodes)) x (t .taken e)
-                (all-reached reach refl) y)),
-            taken-not-out (block-lawful w) (two-kinds w) (some-joint w) (w .well) in-range (omega (arith, asked-nodes)) x (t .taken e),
+          let w = a .good .well in
+          let settles =
+          applies-settled (block-lawful w) (two-kinds w) (some-joint w) (w .well) in-range small x (t .taken e) (all-reached reach refl) in (
+            λ y. d (start-same (settles y)),
+            taken-not-out (block-lawful w) (two-kinds w) (some-joint w) (w .well) in-range small x (t .taken e),
           )
 
   -- one verdict
@@ -315,4 +317,5 @@ ask-one (unreached _ x _) (unreached _ y _) = reach-one x y
 ask-one (unreached _ x q) (judged _ y _ _ _) = absurd (true≢false (sym q ∙ ap refuses (reach-one x y)))
 ask-one (judged d _ _ _ _) (refused q _) = absurd (true≢false (sym q ∙ ap refuses d))
 ask-one (judged _ y _ _ _) (unreached _ x q) = absurd (true≢false (sym q ∙ ap refuses (reach-one x y)))
-ask-one {b} {p} (judged d _ x f e) (judged _ _ y g h) = e ∙ ap (λ (z : Verdict). Done (verdictNumber z)) (verdict-one (asked b p d) x y f g) ∙ sym h
+ask-one {b} {p} (judged d _ x f e) (judged _ _ y g h) =
+    e ∙ ap (λ (z : Verdict). Done (verdictNumber z)) (verdict-one (asked b p d) x y f g) ∙ sym h

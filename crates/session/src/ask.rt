@@ -45,7 +45,7 @@ fn tie_fact(v: u8, tie: Tie) -> NodeFact
 
 // A rule's fact as a fact on nodes.
 fn rule_node_fact(v: u8, fact: RuleFact) -> NodeFact
-    requires { ⌜ (v < 128) × ((n : ℕ) × InRange n 128 (rename ruleNumber (ruleFact fact))) ⌝ }
+    requires { ⌜ (v ≤ 96) × ((n : ℕ) × InRange n 32 (rename ruleNumber (ruleFact fact))) ⌝ }
     ensures { λ r. ⌜ nodeFact r ≡ rename (ruleNode v) (ruleFact fact) ⌝ }
 {
     match fact {

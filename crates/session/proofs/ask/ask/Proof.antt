@@ -1,6 +1,7 @@
 -- `session::ask/ask` meets its contract: each return is one of its three cases.
 -- Assumes nothing.
 use mathlib.Core.Path.{_≡_, sym, ap, _∙_}
+use borrow.Author.Needs.{needs}
 use Rattle.replies.specs.declared.Reply.the-variants.{Done}
 use Rattle.replies.specs.Replies.{refuses}
 use Rattle.packets.specs.Facts.{ruleOf}
@@ -10,7 +11,6 @@ use Rattle.blocks.specs.Layout.{kindsOf, jointsOf}
 use Rattle.session.specs.Ask.{askRefusal}
 use Rattle.session.specs.Ask.Ask.{refused, unreached, judged}
 use Rattle.session.proofs.Asking.{asked, ask-done}
-use borrow.Author.Needs.{needs}
 use Rattle.session.proofs.ask.ask.Statement.{statement}
 use Rattle.session.proofs.ask.ask.Tie as tie
 
@@ -23,7 +23,10 @@ not-refused c =
     ask-done _ _ (ap refuses (sym (c .before .before .ask-refusal .ensures)) ∙ sym (c .before .is-refusal .ensures) ∙ c .if1 .left)
 
 -- nor does 10
-all-reached : (c : tie.Else2) → ReachReply (ruleOf (c .before .before .before .before .before .before .before .before .args .packet .now)) (Done 0)
+all-reached :
+    (c : tie.Else2) →
+    let a = c .before .before .before .before .before .before .before .before .args in
+    ReachReply (ruleOf (a .packet .now)) (Done 0)
 all-reached c =
     let r = c .before .before .reach-reply .ensures in
     rw (reach-done r (sym (c .before .is-refusal2 .ensures) ∙ c .if2 .left)) at r
@@ -63,7 +66,9 @@ verdict-number-requires : tie.Need-verdict-number-requires
 verdict-number-requires c κs = search needs
 
 returns-3 : tie.Need-returns-3
-returns-3 c = judged (not-refused (c .before .before .before .before .before)) (all-reached (c .before .before)) (c .before .verdict .result) (c .before .verdict .ensures) (ap Done (c .verdict-number .ensures))
+returns-3 c =
+    let v = c .before .verdict in
+    judged (not-refused (c .before .before .before .before .before)) (all-reached (c .before .before)) (v .result) (v .ensures) (ap Done (c .verdict-number .ensures))
 
 pub ask-spec : {M : Type 1} → statement M
 ask-spec =

@@ -3,11 +3,11 @@
 use mathlib.Core.Path.{_≡_, sym, ap, _∙_}
 use mathlib.Core.Bool.{false}
 use native.Mathlib.Omega.{arith}
+use borrow.Author.Needs.{needs}
 use Rattle.replies.specs.Replies.{refuses}
 use Rattle.session.specs.Block.{blockReply}
 use Rattle.session.proofs.Blocks.{GoodBlock, good-block}
 use Rattle.session.proofs.Asking.{block-refuses, packet-decides}
-use borrow.Author.Needs.{needs}
 use Rattle.session.proofs.ask.ask_refusal.Statement.{statement}
 use Rattle.session.proofs.ask.ask_refusal.Tie as tie
 

@@ -3,9 +3,9 @@
 use mathlib.Core.Path.{_≡_}
 use lib.ListN.{length}
 use native.Mathlib.Omega.{arith}
+use borrow.Author.Needs.{needs}
 use borrow.Author.Tests.{not-true, not-false}
 use Rattle.session.proofs.Asking.{no, answers-same, rig-same, rig-rows}
-use borrow.Author.Needs.{needs}
 use Rattle.session.proofs.ask.same_rig.Statement.{statement}
 use Rattle.session.proofs.ask.same_rig.Tie as tie
 
@@ -59,16 +59,19 @@ mul-same-front c = search needs
 
 same-front-requires-3 : tie.Need-same-front-requires-3
 same-front-requires-3 c κs =
-    let s = c .before .before .before .before .before .before .before .before .before .before .before .before .before .before .before .before in
+    let kinds = c .before .before .before .before .before .before in
+    let s = kinds .before .before .before .before .before .before .before .before .before .before in
     let l = link-long s in
     (omega (arith, s .pre), omega (arith, s .pre))
 
 returns-3 : tie.Need-returns-3
 returns-3 c =
-    let a = c .before .before .before .before .before .before .before .before .before .before .before .before .before .before .before .before .before .args in
-    let class = c .before .before .before .before .before .before .before .before .before .before .before .before .same-front .ensures .0 (not-false _ (c .before .before .before .before .before .before .before .before .before .before .before .if1 .left)) in
-    let kind = c .before .before .before .before .before .before .same-front2 .ensures .0 (not-false _ (c .before .before .before .before .before .if2 .left)) in
-    answers-same (λ rows. rig-same (a .v) (a .start) (a .end) class kind rows) (rig-rows (a .v) (a .start) (a .end)) (c .same-front3 .ensures)
+    let kinds = c .before .before .before .before .before .before in
+    let classes = kinds .before .before .before .before .before .before in
+    let a = classes .before .before .before .before .before .args in
+    let class = classes .same-front .ensures .0 (not-false _ (kinds .before .before .before .before .before .if1 .left)) in
+    let kind = kinds .same-front2 .ensures .0 (not-false _ (c .before .before .before .before .before .if2 .left)) in
+    answers-same (rig-same (a .v) (a .start) (a .end) class kind) (rig-rows (a .v) (a .start) (a .end)) (c .same-front3 .ensures)
 
 pub same-rig-spec : {M : Type 1} → statement M
 same-rig-spec =

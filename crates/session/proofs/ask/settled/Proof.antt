@@ -1,8 +1,8 @@
 -- `session::ask/settled` meets its contract: the rig's part first, then the rule's joints.
 -- Assumes nothing.
+use borrow.Author.Needs.{needs}
 use borrow.Author.Tests.{not-true, not-false}
 use Rattle.session.proofs.Asking.{no, answers-same, with-inside, without-inside}
-use borrow.Author.Needs.{needs}
 use Rattle.session.proofs.ask.settled.Statement.{statement}
 use Rattle.session.proofs.ask.settled.Tie as tie
 

@@ -1,9 +1,9 @@
 -- `session::ask/with_rule` meets its contract: a clash of the ties is one of the rule, and else the facts decide.
 -- Assumes nothing.
+use borrow.Author.Needs.{needs}
 use borrow.Author.Tests.{not-true, not-false}
 use Rattle.solver.proofs.Takes.{ready-after}
 use Rattle.session.proofs.Asking.{took-then, took-not}
-use borrow.Author.Needs.{needs}
 use Rattle.session.proofs.ask.with_rule.Statement.{statement}
 use Rattle.session.proofs.ask.with_rule.Tie as tie
 

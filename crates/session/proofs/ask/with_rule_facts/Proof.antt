@@ -1,15 +1,14 @@
 -- `session::ask/with_rule_facts` meets its contract. The loop's invariant: what becomes of the facts left becomes of all of them.
 -- The measure is what is left of the facts.
 -- Assumes nothing.
-use mathlib.Core.Path.{_≡_, refl, sym, ap, _∙_}
+use mathlib.Core.Path.{_≡_, refl, ap, _∙_}
 use mathlib.Core.List.{map}
 use Prim.Native.Nat.{_+_, _-_, _<_, _≤_}
 use native.Mathlib.Omega.{arith}
 use borrow.Author.Tests.{not-true, not-false}
 use Rattle.meaning.specs.Picture.{rename}
 use Rattle.meaning.specs.Rule.{ruleJoint}
-use Rattle.meaning.specs.Solving.{InRange}
-use Rattle.meaning.specs.Asking.{ruleNumber, ruleNode}
+use Rattle.meaning.specs.Asking.{ruleNode}
 use Rattle.packets.specs.Packet.{factCount, joints}
 use Rattle.packets.specs.Facts.{factOf, ruleFact, ruleOf}
 use Rattle.packets.specs.Marking.{nthFact}
@@ -30,13 +29,16 @@ abbrev μ-loop : tie.MeasureT-loop
 μ-loop table n v packet nodes count form₀ i₀ form i = count - i
 
 -- i is the number of a fact
-below : (c : tie.In-loop Inv-loop μ-loop) → c .before .loop .i < factCount (c .before .before .before .before .before .before .args .packet .now)
+below :
+    (c : tie.In-loop Inv-loop μ-loop) →
+    c .before .loop .i < factCount (c .before .before .before .before .before .before .args .packet .now)
 below c = omega (arith, c .loop-test .taken, c .before .loop .inv .1)
 
 -- the fact read is the i-th
 read :
     (c : tie.After-rule-fact Inv-loop μ-loop) →
-    ruleFact (c .rule-fact .result) ≡ nthFact (c .before .before .before .before .before .before .before .before .args .packet .now) (c .before .before .before .loop .i)
+    let a = c .before .before .before .before .before .before .before .before .args in
+    ruleFact (c .rule-fact .result) ≡ nthFact (a .packet .now) (c .before .before .before .loop .i)
 read c = c .rule-fact .ensures ∙ ap (factOf ruleJoint _) (c .before .fact-at .ensures .0)
 
 -- and at nodes
@@ -76,8 +78,8 @@ rule-fact-requires c κs =
 rule-node-fact-requires : tie.Need-rule-node-fact-requires Inv-loop μ-loop
 rule-node-fact-requires c κs =
     let s = c .before .before .before .before .before .before .before .before in
-    let l = c .before .before .before .loop in
-    (omega (arith, s .pre .0 .nodes), (s .args .n, rw (read c) (fact-small (rule-fits _ _ _ (s .pre .1)) (l .i) (below (c .before .before)))))
+    let r = fact-small (rule-fits _ _ _ (s .pre .1)) (c .before .before .before .loop .i) (below (c .before .before)) in
+    (omega (arith, s .pre .0 .nodes), (s .args .n, rw (read c) r))
 
 with-fact-requires : tie.Need-with-fact-requires Inv-loop μ-loop
 with-fact-requires c κs =
@@ -88,22 +90,26 @@ with-fact-requires c κs =
 
 returns : tie.Need-returns Inv-loop μ-loop
 returns c =
-    let l = c .before .before .before .before .before .before .before .loop in
-    let t = rw (l .inv .2) at (c .before .before .with-fact .ensures) in
-    fold-stops (l .inv .3) (below (c .before .before .before .before .before .before)) (at-node (c .before .before .before)) t (not-true _ (c .if1 .taken))
+    let l = c .before .before .before .before .before .before .before .loop .inv in
+    let t = rw (l .2) at (c .before .before .with-fact .ensures) in
+    fold-stops (l .3) (below (c .before .before .before .before .before .before)) (at-node (c .before .before .before)) t (not-true _ (c .if1 .taken))
 
 add-i : tie.Need-add-i Inv-loop μ-loop
-add-i c = omega (arith, below (c .before .before .before .before .before .before .before), rule-fits _ _ _ (c .before .before .before .before .before .before .before .before .before .before .before .before .before .pre .1) .whole .few)
+add-i c =
+    let s = c .before .before .before .before .before .before .before .before .before .before .before .before .before in
+    omega (arith, below (c .before .before .before .before .before .before .before), rule-fits _ _ _ (s .pre .1) .whole .few)
 
 loop-less : tie.Need-loop-less Inv-loop μ-loop
 loop-less c = omega (arith, c .before .before .before .before .before .before .before .loop-test .taken)
 
 loop-again : tie.Need-loop-again Inv-loop μ-loop
 loop-again c =
-    let l = c .before .before .before .before .before .before .before .before .loop in
-    let t = rw (l .inv .2) at (c .before .before .before .with-fact .ensures) in
-    let next = fold-next (l .inv .3) (below (c .before .before .before .before .before .before .before)) (at-node (c .before .before .before .before)) t (not-false _ (c .before .if1 .left)) in
-    (omega (arith, c .before .before .before .before .before .before .before .loop-test .taken), l .inv .1, l .inv .2, next)
+    let f = c .before .before .before .before in
+    let l = f .before .before .before .before .loop .inv in
+    let t = rw (l .2) at (c .before .before .before .with-fact .ensures) in
+    let turn = f .before .before .before in
+    let next = fold-next (l .3) (below turn) (at-node f) t (not-false _ (c .before .if1 .left)) in
+    (omega (arith, turn .loop-test .taken), l .1, l .2, next)
 
 returns-2 : tie.Need-returns-2 Inv-loop μ-loop
 returns-2 c = let l = c .before .loop in fold-ends (l .inv .3) (omega (arith, c .loop-test .left, l .inv .1))
