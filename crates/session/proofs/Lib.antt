@@ -2,8 +2,9 @@ pub mod Blocks
 pub mod Filling
 pub mod Unpacking
 pub mod Folding
+pub mod Opening
 pub mod Taking
 pub mod Outcome
-pub mod Opening
 pub mod OneTake
+pub mod Asking
 pub mod Thirds

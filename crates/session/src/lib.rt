@@ -1,4 +1,5 @@
 // A session: the calls on a lent block. Each call is a module; `form` stands between the block and the solver, and `block` checks what is lent.
+pub mod ask;
 pub mod block;
 pub mod form;
 pub mod open;

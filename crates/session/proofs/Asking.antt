@@ -1,0 +1,321 @@
+-- Asking: the ties and facts of a rule in range at their nodes and taken in turn, the verdict that the form taken gives, and that the
+-- contract of asking allows one reply.
+-- Assumes nothing.
+use mathlib.Core.Path.{_≡_, refl, sym, ap, _∙_}
+use mathlib.Core.Bool.{Bool, true, false, cond, true≢false, false≢true}
+use mathlib.Core.List.{List, [], _∷_, _++_, map}
+use Prim.Native.Nat.{ℕ, zero, suc, _+_, _*_, _/_, _%_, _<_, _≤_}
+use native.Mathlib.Omega.{arith}
+use native.Mathlib.Nat.{not-suc-le-zero, div-add-mod', mod-lt}
+use lib.ListN.{getD}
+use Rattle.replies.specs.declared.Reply.{Reply}
+use Rattle.replies.specs.declared.Reply.the-variants.{Done}
+use Rattle.replies.specs.Replies.{refuses, orElse}
+use Rattle.replies.proofs.Laws.{or-first, or-second}
+use Rattle.kinds.specs.Kinds.{meetAt}
+use Rattle.meaning.specs.declared.RuleJoint.{RuleJoint}
+use Rattle.meaning.specs.declared.Tie.{Tie}
+use Rattle.meaning.specs.declared.Verdict.{Verdict}
+use Rattle.meaning.specs.declared.Verdict.the-variants.{Applies, RuledOut, Waits}
+use Rattle.meaning.specs.Picture.{Fact, rename, Every}
+use Rattle.meaning.specs.Picture.Fact.{has-kind, same, leads}
+use Rattle.meaning.specs.Rule.{ruleJoint, Judged, verdictNumber}
+use Rattle.meaning.specs.Form.{Form, unknown}
+use Rattle.meaning.specs.Solving.{InRange, Taken}
+use Rattle.meaning.specs.Asking.{TiesInRange, RuleInRange, ruleNumber, ruleNode, tieFact, ruleNodeFacts, Extends, Settled}
+use Rattle.meaning.proofs.Canon.{applies-not-ruled-out}
+use Rattle.meaning.proofs.Extend.{extend-well}
+use Rattle.meaning.proofs.Asked.{clash-ruled-out, taken-not-out, settled-applies, applies-settled}
+use Rattle.meaning.proofs.Takes.{taken-then, refuted-then, refuted-more}
+use Rattle.packets.specs.Packet.{ties, joints, tieAt, factAt, factCount, packetReply, ruleWanted}
+use Rattle.packets.specs.Facts.{factOf, each, tieOf, ruleOf}
+use Rattle.packets.specs.Reached.{ReachReply}
+use Rattle.packets.specs.Marking.{nthFact}
+use Rattle.packets.proofs.WellFormed.{WellFormed, well-formed, packet-done}
+use Rattle.packets.proofs.Facts.{fact-named, each-in-range}
+use Rattle.packets.proofs.Reached.{reach-one, all-reached}
+use Rattle.solver.specs.declared.Solved.{Solved}
+use Rattle.solver.specs.Unpacked.{formOf, Ready, Took}
+use Rattle.blocks.specs.Layout.{kindsOf, jointsOf, tableOf, blockForm}
+use Rattle.blocks.proofs.Shape.{two-kinds, some-joint, block-lawful, block-sized}
+use Rattle.session.specs.Block.{blockReply, meetOf, taken}
+use Rattle.session.specs.Ask.{askRefusal, Ask}
+use Rattle.session.specs.Ask.Ask.{refused, unreached, judged}
+use Rattle.session.proofs.Blocks.{GoodBlock, good-block}
+use Rattle.session.proofs.Folding.{Folding, fold-begins, fold-takes, fold-clashes, each-map}
+
+-- one fact more, g, which is the i-th
+module _
+    {n v : ℕ} {table : List ℕ} {first : Form} {all : List (Fact ℕ)} {f : ℕ → Fact ℕ} {i m : ℕ} {S T : Form}
+    (l : Folding n table v first all f i m S) (h : i < m) {g : Fact ℕ} (e : g ≡ f i) {ok : Bool}
+    (t : Took n (meetAt n table) v S (g ∷ []) ok T) where
+  pub fold-next : ok ≡ true → Folding n table v first all f (i + 1) m T
+  fold-next q = fold-takes l h (rw e at (t .taken q))
+
+  pub fold-stops : ok ≡ false → Took n (meetAt n table) v first all ok T
+  fold-stops q = rw q (fold-clashes l T h (rw e at (t .refuted q)))
+
+-- a fact on nodes is in range, where the fact on the rule's joints is in range
+node-range : (n v k : ℕ) (f : Fact RuleJoint) → InRange n k (rename ruleNumber f) → InRange n (v + k) (rename (ruleNode v) f)
+node-range n v k (has-kind a s) r = (omega (arith, r .0), r .1)
+node-range n v k (same a b) r = (omega (arith, r .0), omega (arith, r .1))
+node-range n v k (leads a l c) r = (omega (arith, r .0), r .1, omega (arith, r .2))
+
+-- in range of more joints
+wider : (n k m : ℕ) → k ≤ m → (f : Fact ℕ) → InRange n k f → InRange n m f
+wider n k m h (has-kind a s) r = (omega (arith, r .0), r .1)
+wider n k m h (same a b) r = (omega (arith, r .0), omega (arith, r .1))
+wider n k m h (leads a l c) r = (omega (arith, r .0), r .1, omega (arith, r .2))
+
+named-back : (f : Fact ℕ) → rename ruleNumber (rename ruleJoint f) ≡ f
+named-back (has-kind a s) = refl
+named-back (same a b) = refl
+named-back (leads a l c) = refl
+
+-- the i-th tie and the i-th fact of a rule, at nodes
+abbrev pub nodeTie : ℕ → List ℕ → ℕ → Fact ℕ
+nodeTie v p i = tieFact v (tieOf p (tieAt i))
+
+abbrev pub nodeRuleFact : ℕ → List ℕ → ℕ → Fact ℕ
+nodeRuleFact v p i = rename (ruleNode v) (nthFact p i)
+
+-- the numbers of a rule that no reply from 5 to 9 refuses, for n kinds and v rig joints
+pub rule-fits : (n v : ℕ) (p : List ℕ) → packetReply ruleWanted n v p ≡ Done 0 → WellFormed ruleWanted n v p
+rule-fits n v p e = well-formed ruleWanted n v p (ap refuses e)
+
+module _ {n v : ℕ} {p : List ℕ} (w : WellFormed ruleWanted n v p) where
+  pub tie-range : (i : ℕ) → i < ties p → InRange n (v + joints p) (nodeTie v p i)
+  tie-range i h = (omega (arith, w .tie-rule i h), omega (arith, w .tie-rig i h))
+
+  pub fact-range : (i : ℕ) → i < factCount p → InRange n (joints p) (rename ruleNumber (nthFact p i))
+  fact-range i h =
+      let q : rename ruleNumber (nthFact p i) ≡ factOf (λ j. j) p (factAt p i) =
+      ap (rename ruleNumber) (fact-named ruleJoint p (factAt p i)) ∙ named-back _ in
+      rw q (w .fact i h)
+
+  -- a rule has at most 32 joints
+  pub fact-small : (i : ℕ) → i < factCount p → InRange n 32 (rename ruleNumber (nthFact p i))
+  fact-small i h = wider n (joints p) 32 (w .joints-to) (rename ruleNumber (nthFact p i)) (fact-range i h)
+
+  pub node-fact-range : (i : ℕ) → i < factCount p → InRange n (v + joints p) (nodeRuleFact v p i)
+  node-fact-range i h = node-range n v (joints p) (nthFact p i) (fact-range i h)
+
+-- the loops over ties and facts begin
+module _ {n nodes : ℕ} {table : List ℕ} {first : Form} (v : ℕ) (p : List ℕ) (d : Ready n nodes table first) where
+  pub ties-begin : Folding n table nodes first (map (tieFact v) (ruleOf p .ties)) (nodeTie v p) 0 (ties p) first
+  ties-begin = rw (each-map (tieFact v) (λ i. tieOf p (tieAt i)) 0 (ties p)) (fold-begins (nodeTie v p) (ties p) d)
+
+  pub facts-begin : Folding n table nodes first (map (rename (ruleNode v)) (ruleOf p .facts)) (nodeRuleFact v p) 0 (factCount p) first
+  facts-begin = rw (each-map (rename (ruleNode v)) (nthFact p) 0 (factCount p)) (fold-begins (nodeRuleFact v p) (factCount p) d)
+
+-- the ties are taken, and then the facts are or are not
+module _ {n : ℕ} {meet : ℕ → ℕ → ℕ} {v : ℕ} {S T : Form} (fs gs : List (Fact ℕ)) where
+  pub took-then : {U : Form} {ok : Bool} → Taken n meet v S fs T → Took n meet v T gs ok U → Took n meet v S (fs ++ gs) ok U
+  took-then a b = record { taken = λ e. taken-then a (b .taken e); refuted = λ e. refuted-then gs a (b .refuted e) }
+
+  pub took-not : {ok : Bool} → ok ≡ false → Took n meet v S fs ok T → Took n meet v S (fs ++ gs) ok T
+  took-not e b =
+      record { taken = λ q. absurd (true≢false (sym q ∙ e)); refuted = λ q. refuted-more n meet v S fs gs (b .refuted q) }
+
+-- b answers whether X
+abbrev pub Answers : Bool → Type 0 → Type 0
+Answers b X = (b ≡ true → X) × (b ≡ false → X → ⊥)
+
+pub yes : {X : Type 0} → X → Answers true X
+yes x = (λ _. x, λ e. absurd (true≢false e))
+
+pub no : {X : Type 0} → (X → ⊥) → Answers false X
+no f = (λ e. absurd (false≢true e), λ _. f)
+
+-- the same answer to what comes to the same
+pub answers-same : {X Y : Type 0} {b : Bool} → (X → Y) → (Y → X) → Answers b X → Answers b Y
+answers-same f g a = (λ e. f (a .0 e), λ e y. a .1 e (g y))
+
+-- the places below count are the same
+abbrev pub SameFront : List ℕ → List ℕ → ℕ → Type 0
+SameFront xs ys count = (i : ℕ) → i < count → getD xs i 0 ≡ getD ys i 0
+
+-- the rig's part of a form, list by list; a row of links is 16 places
+module _ (v : ℕ) (s t : Solved) where
+  pub rig-same :
+      SameFront (t .class) (s .class) v → SameFront (t .kind) (s .kind) v → SameFront (t .link) (s .link) (16 * v) →
+      Settled v 0 (formOf s) (formOf t)
+  rig-same c k r =
+      record {
+        class = c;
+        kind = k;
+        link = λ j l h b. r (j * 16 + l) (omega arith);
+        inside = λ i h. absurd (not-suc-le-zero h);
+      }
+
+  pub rig-rows : Settled v 0 (formOf s) (formOf t) → SameFront (t .link) (s .link) (16 * v)
+  rig-rows q i h =
+      let e : (i / 16) * 16 + i % 16 ≡ i = div-add-mod' i 16 in
+      let b : i % 16 < 16 = mod-lt i (omega arith) in
+      rw e at (q .link (i / 16) (i % 16) (omega arith) b)
+
+-- the rig's part with the rule's joints, and without them
+pub with-inside : {v k : ℕ} {S T : Form} → Settled v 0 S T → ((i : ℕ) → i < k → T .class (v + i) < v) → Settled v k S T
+with-inside q f = record { class = q .class; kind = q .kind; link = q .link; inside = f }
+
+pub without-inside : {v k : ℕ} {S T : Form} → Settled v k S T → Settled v 0 S T
+without-inside q =
+    record { class = q .class; kind = q .kind; link = q .link; inside = λ i h. absurd (not-suc-le-zero h) }
+
+-- neither the block nor the packet is refused by a reply from 1 to 9
+pub record Asked (b p : List ℕ) : Type 0 where
+  pub good : GoodBlock b
+  pub rule : packetReply ruleWanted (kindsOf b) (jointsOf b) p ≡ Done 0
+
+-- two replies of which neither is a refusal
+or-done : (a b : Reply) → orElse a b ≡ Done 0 → (refuses a ≡ false) × (b ≡ Done 0)
+or-done a b = by-first (refuses a) refl
+  where
+    by-first : (t : Bool) → refuses a ≡ t → cond t a b ≡ Done 0 → (refuses a ≡ false) × (b ≡ Done 0)
+    by-first true q e = absurd (true≢false (sym q ∙ ap refuses e))
+    by-first false q e = (q, e)
+
+pub asked : (b p : List ℕ) → askRefusal b p ≡ Done 0 → Asked b p
+unfolding askRefusal
+asked b p e =
+    let both = or-done (blockReply b) (packetReply ruleWanted (kindsOf b) (jointsOf b) p) e in
+    record { good = good-block b (both .0); rule = both .1 }
+
+-- the first refusal, and that there is none
+module _ (b p : List ℕ) where
+  pub block-refuses : refuses (blockReply b) ≡ true → askRefusal b p ≡ blockReply b
+  unfolding askRefusal
+  block-refuses e = or-first (blockReply b) (packetReply ruleWanted (kindsOf b) (jointsOf b) p) e
+
+  pub packet-decides : refuses (blockReply b) ≡ false → askRefusal b p ≡ packetReply ruleWanted (kindsOf b) (jointsOf b) p
+  unfolding askRefusal
+  packet-decides e = or-second (blockReply b) (packetReply ruleWanted (kindsOf b) (jointsOf b) p) e
+
+  pub ask-done : refuses (askRefusal b p) ≡ false → askRefusal b p ≡ Done 0
+  ask-done e = by-block (refuses (blockReply b)) refl
+    where
+      by-block : (t : Bool) → refuses (blockReply b) ≡ t → askRefusal b p ≡ Done 0
+      by-block true q = absurd (true≢false (sym q ∙ ap refuses (sym (block-refuses q)) ∙ e))
+      by-block false q =
+          let d = packet-decides q in
+          d ∙ packet-done ruleWanted (kindsOf b) (jointsOf b) p (ap refuses (sym d) ∙ e)
+
+-- a list of ties is in range where each is
+ties-in-range :
+    (v k : ℕ) (f : ℕ → Tie) (i count : ℕ) → ((j : ℕ) → j < i + count → (f j .rule .0 < k) × (f j .rig .0 < v)) →
+    TiesInRange v k (each f i count)
+unfolding each
+ties-in-range v k f i zero r = tt
+ties-in-range v k f i (suc count) r = (r i (omega arith), ties-in-range v k f (suc i) count (λ j h. r j (omega arith)))
+
+module _ {b p : List ℕ} (a : Asked b p) where
+  pub asked-rule : WellFormed ruleWanted (kindsOf b) (jointsOf b) p
+  asked-rule = rule-fits (kindsOf b) (jointsOf b) p (a .rule)
+
+  pub asked-nodes : jointsOf b + joints p ≤ 96
+  asked-nodes = omega (arith, a .good .well .v-high, asked-rule .joints-to)
+
+  small : jointsOf b + joints p ≤ unknown
+  small = omega (arith, asked-nodes)
+
+  in-range : RuleInRange (kindsOf b) (jointsOf b) (ruleOf p)
+  in-range =
+      record {
+        ties =
+            ties-in-range (jointsOf b) (joints p) (λ i. tieOf p (tieAt i)) 0 (ties p)
+            (λ i h. (asked-rule .tie-rule i (omega arith), asked-rule .tie-rig i (omega arith)));
+        facts =
+            rw (each-map (rename ruleNumber) (nthFact p) 0 (factCount p))
+            (each-in-range (kindsOf b) (joints p) (λ i. rename ruleNumber (nthFact p i)) 0 (factCount p)
+            (λ i h. fact-range asked-rule i (omega arith)));
+      }
+
+  -- the form of the block with the rule's joints as free nodes behind it
+  module _ {E : Form} (x : Extends (jointsOf b) (joints p) (blockForm b) E) where
+    pub asked-ready : Ready (kindsOf b) (jointsOf b + joints p) (tableOf b) E
+    asked-ready =
+        let w = a .good .well in
+        record {
+          two = two-kinds w;
+          kinds = w .n-high;
+          size = block-sized w (a .good .size) .size;
+          lawful = block-lawful w;
+          nodes = asked-nodes;
+          well = extend-well (two-kinds w) (w .well) x;
+        }
+
+    -- below the rig's joint count it is the form of the block
+    same-start : {T : Form} → Settled (jointsOf b) (joints p) E T → Settled (jointsOf b) (joints p) (blockForm b) T
+    same-start q =
+        record {
+          class = λ j h. q .class j h ∙ x .class-old j h;
+          kind = λ j h. q .kind j h ∙ x .kind-old j h;
+          link = λ j l h i. q .link j l h i ∙ x .link-old j l h i;
+          inside = q .inside;
+        }
+
+    start-same : {T : Form} → Settled (jointsOf b) (joints p) (blockForm b) T → Settled (jointsOf b) (joints p) E T
+    start-same q =
+        record {
+          class = λ j h. q .class j h ∙ sym (x .class-old j h);
+          kind = λ j h. q .kind j h ∙ sym (x .kind-old j h);
+          link = λ j l h i. q .link j l h i ∙ sym (x .link-old j l h i);
+          inside = q .inside;
+        }
+
+    -- what the ties and facts, taken there, say of the rule
+    module _
+        {T : Form} {ok : Bool}
+        (t : Took (kindsOf b) (meetOf b) (jointsOf b + joints p) E (ruleNodeFacts (jointsOf b) (ruleOf p)) ok T) where
+      pub ruled-out : ok ≡ false → Judged {n = kindsOf b} (meetOf b) Every (taken b) (ruleOf p) RuledOut
+      ruled-out e =
+          let w = a .good .well in
+          clash-ruled-out (block-lawful w) (two-kinds w) (some-joint w) (w .well) in-range small x (t .refuted e)
+
+      pub applies :
+          ok ≡ true → Settled (jointsOf b) (joints p) E T → Judged {n = kindsOf b} (meetOf b) Every (taken b) (ruleOf p) Applies
+      applies e q =
+          let w = a .good .well in
+          settled-applies (block-lawful w) (two-kinds w) (some-joint w) (w .well) in-range small x (t .taken e) (same-start q)
+
+      pub waits :
+          ok ≡ true → ReachReply (ruleOf p) (Done 0) → (Settled (jointsOf b) (joints p) E T → ⊥) →
+          Judged {n = kindsOf b} (meetOf b) Every (taken b) (ruleOf p) Waits
+      waits e reach d =
+          let w = a .good .well in
+          let settles =
+          applies-settled (block-lawful w) (two-kinds w) (some-joint w) (w .well) in-range small x (t .taken e) (all-reached reach refl) in (
+            λ y. d (start-same (settles y)),
+            taken-not-out (block-lawful w) (two-kinds w) (some-joint w) (w .well) in-range small x (t .taken e),
+          )
+
+  -- one verdict
+  verdict-one :
+      (x y : Verdict) → Judged {n = kindsOf b} (meetOf b) Every (taken b) (ruleOf p) x →
+      Judged {n = kindsOf b} (meetOf b) Every (taken b) (ruleOf p) y → x ≡ y
+  verdict-one Applies Applies f g = refl
+  verdict-one Applies RuledOut f g =
+      let w = a .good .well in
+      absurd (applies-not-ruled-out (block-lawful w) (two-kinds w) (some-joint w) (w .well) Every (ruleOf p) tt f g)
+  verdict-one Applies Waits f g = absurd (g .0 f)
+  verdict-one RuledOut Applies f g =
+      let w = a .good .well in
+      absurd (applies-not-ruled-out (block-lawful w) (two-kinds w) (some-joint w) (w .well) Every (ruleOf p) tt g f)
+  verdict-one RuledOut RuledOut f g = refl
+  verdict-one RuledOut Waits f g = absurd (g .1 f)
+  verdict-one Waits Applies f g = absurd (f .0 g)
+  verdict-one Waits RuledOut f g = absurd (f .1 g)
+  verdict-one Waits Waits f g = refl
+
+-- the contract of asking allows one reply
+pub ask-one : {b p : List ℕ} {r s : Reply} → Ask b p r → Ask b p s → r ≡ s
+ask-one (refused _ e) (refused _ f) = e ∙ sym f
+ask-one (refused q e) (unreached d _ _) = absurd (true≢false (sym q ∙ ap refuses d))
+ask-one (refused q e) (judged d _ _ _ _) = absurd (true≢false (sym q ∙ ap refuses d))
+ask-one (unreached d _ _) (refused q _) = absurd (true≢false (sym q ∙ ap refuses d))
+ask-one (unreached _ x _) (unreached _ y _) = reach-one x y
+ask-one (unreached _ x q) (judged _ y _ _ _) = absurd (true≢false (sym q ∙ ap refuses (reach-one x y)))
+ask-one (judged d _ _ _ _) (refused q _) = absurd (true≢false (sym q ∙ ap refuses d))
+ask-one (judged _ y _ _ _) (unreached _ x q) = absurd (true≢false (sym q ∙ ap refuses (reach-one x y)))
+ask-one {b} {p} (judged d _ x f e) (judged _ _ y g h) =
+    e ∙ ap (λ (z : Verdict). Done (verdictNumber z)) (verdict-one (asked b p d) x y f g) ∙ sym h
