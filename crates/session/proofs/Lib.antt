@@ -2,3 +2,4 @@ pub mod Blocks
 pub mod Filling
 pub mod Unpacking
 pub mod Folding
+pub mod Writing

@@ -4,3 +4,4 @@ pub mod Open
 pub mod Take
 pub mod Ask
 pub mod Write
+pub mod Putting

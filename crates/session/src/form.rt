@@ -75,7 +75,7 @@ pub fn unpack(block: &[u8], v: usize, k: usize) -> Solved
 }
 
 // The first bytes of `from` fill `to`.
-fn copy_front(to: &mut [u8], from: &[u8])
+pub fn copy_front(to: &mut [u8], from: &[u8])
     requires { ⌜ length (now to) ≤ length (now from) ⌝ }
     ensures { λ _. ⌜ now (to .exit) ≡ take (length (now (to .entry))) (now (from .entry)) ⌝ }
 {
