@@ -7,4 +7,5 @@ pub mod Taking
 pub mod Outcome
 pub mod OneTake
 pub mod Asking
+pub mod Writing
 pub mod Thirds

@@ -5,3 +5,4 @@ pub mod Take
 pub mod Solve
 pub mod Ask
 pub mod Write
+pub mod Putting

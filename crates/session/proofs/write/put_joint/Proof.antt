@@ -1,0 +1,72 @@
+-- `session::write/put_joint` meets its contract: the case of the class that was read.
+-- Assumes nothing.
+use Rattle.blocks.specs.Layout.{blockForm}
+use Rattle.session.proofs.Writing.{other-room, other-put, kind-room, links-room, smallest-put}
+use borrow.Author.Needs.{needs}
+use Rattle.session.proofs.write.put_joint.Statement.{statement}
+use Rattle.session.proofs.write.put_joint.Tie as tie
+
+class-at-requires : tie.Need-class-at-requires
+class-at-requires c κs = search needs
+
+cast-if1 : tie.Need-cast-if1
+cast-if1 c = search needs
+
+cast-put : tie.Need-cast-put
+cast-put c = search needs
+
+put-requires : tie.Need-put-requires
+put-requires c κs = let s = c .before .before .before .before .before in let a = s .args in
+    other-room (blockForm (a .block .now)) (a .j) (a .at) (a .to .now) (c .before .before .class-at .ensures) (c .before .if1 .taken) (s .pre .2)
+
+same-length : tie.Need-same-length
+same-length c = search needs
+
+returns : tie.Need-returns
+returns c = let a = c .before .before .before .before .before .before .before .before .args in
+    other-put (blockForm (a .block .now)) (a .j) (a .at) (a .to .now) (c .before .before .before .before .before .class-at .ensures)
+    (c .before .before .before .before .if1 .taken) (c .before .before .put .ensures)
+
+kind-at-requires : tie.Need-kind-at-requires
+kind-at-requires c κs = search needs
+
+cast-put-kind : tie.Need-cast-put-kind
+cast-put-kind c = search needs
+
+put-kind-requires : tie.Need-put-kind-requires
+put-kind-requires c κs = let s = c .before .before .before .before .before .before in let a = s .args in
+    kind-room (blockForm (a .block .now)) (a .j) (a .at) (a .to .now) (c .before .before .before .class-at .ensures)
+    (c .before .before .if1 .left) (c .before .kind-at .ensures) (s .pre .2)
+
+put-links-requires : tie.Need-put-links-requires
+put-links-requires c κs = let s = c .before .before .before .before .before .before .before .before .before .before in let a = s .args in (
+  s .pre .0,
+  s .pre .1,
+  links-room (blockForm (a .block .now)) (a .j) (a .at) (a .to .now) (c .before .before .before .before .before .before .before .class-at .ensures)
+      (c .before .before .before .before .before .before .if1 .left) (c .before .before .before .before .before .kind-at .ensures) (c .before .before .before .put-kind .ensures) (s .pre .2),
+)
+
+same-length-2 : tie.Need-same-length-2
+same-length-2 c = search needs
+
+returns-2 : tie.Need-returns-2
+returns-2 c = let a = c .before .before .before .before .before .before .before .before .before .before .before .before .before .args in
+    smallest-put (blockForm (a .block .now)) (a .j) (a .at) (a .to .now) (c .before .before .before .before .before .before .before .before .before .before .class-at .ensures)
+    (c .before .before .before .before .before .before .before .before .before .if1 .left) (c .before .before .before .before .before .before .before .before .kind-at .ensures) (c .before .before .before .before .before .before .put-kind .ensures) (c .before .before .put-links .ensures)
+
+pub put-joint-spec : {M : Type 1} → statement M
+put-joint-spec =
+    tie.close
+    (tie.spec
+    class-at-requires
+    cast-if1
+    cast-put
+    put-requires
+    same-length
+    returns
+    kind-at-requires
+    cast-put-kind
+    put-kind-requires
+    put-links-requires
+    same-length-2
+    returns-2)
