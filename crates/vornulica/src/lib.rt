@@ -2,8 +2,9 @@
 ghost use mathlib.Core.Path.{_≡_};
 ghost use Rattle.replies.specs.Replies.{packed};
 ghost use Rattle.session.specs.Open.{openReply, openBlock};
+ghost use Rattle.session.specs.Write.{writeReply, writtenOutput};
 ghost use Rattle.vornulica.specs.House.{houseReply, houseBuffer};
-ghost use Rattle.vornulica.specs.Host.{TakeNumber};
+ghost use Rattle.vornulica.specs.Host.{TakeNumber, AskNumber};
 use replies::Reply;
 
 // Opens a session of v joints with a table of n kinds over the block.
@@ -20,6 +21,22 @@ pub extern "C" fn rig_take(block: &mut [u8], packet: &[u8]) -> u64
     ensures { λ r. ⌜ TakeNumber (now (block .entry)) (now (packet .entry)) r (now (block .exit)) ⌝ }
 {
     replies::to_host(session::take::take(block, packet))
+}
+
+// Asks a rule: the third number is the verdict.
+#[no_mangle]
+pub extern "C" fn rig_ask(block: &[u8], packet: &[u8]) -> u64
+    ensures { λ r. ⌜ AskNumber (now (block .entry)) (now (packet .entry)) r ⌝ }
+{
+    replies::to_host(session::ask::ask(block, packet))
+}
+
+// Writes the solved form as a facts packet.
+#[no_mangle]
+pub extern "C" fn rig_write(block: &[u8], out: &mut [u8]) -> u64
+    ensures { λ r. ⌜ (r ≡ packed (writeReply (now (block .entry)) (now (out .entry)))) × (now (out .exit) ≡ writtenOutput (now (block .entry)) (now (out .entry))) ⌝ }
+{
+    replies::to_host(session::write::write(block, out))
 }
 
 // Writes the house table, 33 × 33 bytes.
