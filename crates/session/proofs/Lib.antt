@@ -3,3 +3,4 @@ pub mod Filling
 pub mod Unpacking
 pub mod Folding
 pub mod Writing
+pub mod RoundTrip
