@@ -3,3 +3,4 @@ pub mod WellFormed
 pub mod Facts
 pub mod Reached
 pub mod Marking
+pub mod Converse

@@ -8,4 +8,5 @@ pub mod Outcome
 pub mod OneTake
 pub mod Asking
 pub mod Writing
+pub mod RoundTrip
 pub mod Thirds

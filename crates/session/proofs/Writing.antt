@@ -177,15 +177,15 @@ module _ (S : Form) (j at : ℕ) (s : List ℕ) {c : ℕ} (e : c ≡ S .class j)
       smallest-put l = put-ends (put-goes-on kind-done [] (sym (append-nil (linksLeft S j 0))) l) refl
 
 -- four bytes a fact, and at most 17 facts a joint
+pub fact-four : (f : Fact RigJoint) → length (factBytes f) ≡ 4
+fact-four (has-kind a s) = refl
+fact-four (same a c) = refl
+fact-four (leads a l c) = refl
+
 pub bytes-four : (fs : List (Fact RigJoint)) → length (allBytes fs) ≡ 4 * length fs
 unfolding allBytes
 bytes-four [] = refl
-bytes-four (f ∷ fs) = length-append (factBytes f) (allBytes fs) ∙ omega (arith, four f, bytes-four fs)
-  where
-    four : (f : Fact RigJoint) → length (factBytes f) ≡ 4
-    four (has-kind a x) = refl
-    four (same a x) = refl
-    four (leads a l x) = refl
+bytes-four (f ∷ fs) = length-append (factBytes f) (allBytes fs) ∙ omega (arith, fact-four f, bytes-four fs)
 
 module _ (S : Form) where
   maybe-more : (b : Bool) (f : Fact ℕ) (fs : List (Fact ℕ)) (most : ℕ) → length fs ≤ most → length (cond b fs (f ∷ fs)) ≤ suc most

@@ -1,7 +1,7 @@
 // Writing a block's solved form. The form is made in an array of its greatest size first, so that its length is known before a byte of
 // the output is written.
 ghost use mathlib.Core.Path.{_≡_};
-ghost use mathlib.Core.List.{[], _∷_, _++_};
+ghost use mathlib.Core.List.{[], _∷_};
 ghost use Prim.Native.Nat.{_+_, _*_, _/_, _%_, _<_, _≤_};
 ghost use lib.ListN.{length, drop};
 ghost use Rattle.meaning.specs.Form.{linksFrom, factsAt, factsFrom};

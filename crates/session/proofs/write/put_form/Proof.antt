@@ -22,16 +22,22 @@ sub-put-header : tie.Need-sub-put-header
 sub-put-header c = search needs
 
 put-header-requires : tie.Need-put-header-requires
-put-header-requires c κs = let s = c .before .before .before .before .before .before .before .before in
-    let p = c .before .before .before .put-joints .ensures in
+put-header-requires c κs =
+    let facts = c .before .before .before in
+    let s = facts .before .before .before .before .before in
+    let p = facts .put-joints .ensures in
     let h = put-short (s .args .block .now) (s .pre .1) p in (omega (arith, p .size, s .pre .2), omega (arith, h))
 
 same-length : tie.Need-same-length
 same-length c = search needs
 
 returns : tie.Need-returns
-returns c = let s = c .before .before .before .before .before .before .before .before .before .before .before in let block = s .args .block .now in
-    form-put (jointsOf block) (taken block) (omega (arith, s .pre .2)) (c .before .before .before .before .before .before .put-joints .ensures) (c .before .before .put-header .ensures)
+returns c =
+    let header = c .before .before in
+    let facts = header .before .before .before .before in
+    let s = facts .before .before .before .before .before in
+    let block = s .args .block .now in
+    form-put (jointsOf block) (taken block) (omega (arith, s .pre .2)) (facts .put-joints .ensures) (header .put-header .ensures)
 
 pub put-form-spec : {M : Type 1} → statement M
 put-form-spec =

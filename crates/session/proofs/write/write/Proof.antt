@@ -1,6 +1,7 @@
 -- `session::write/write` meets its contract: each return is an answer of the definition, by the tests before it.
 -- Assumes nothing.
 use mathlib.Core.Path.{refl, _∙_, sym}
+use Prim.Native.Nat.{_≤_}
 use native.Mathlib.Omega.{arith}
 use lib.ListN.{length-take}
 use lib.Seq.{length-take-le}
@@ -19,22 +20,35 @@ is-refusal-requires : tie.Need-is-refusal-requires
 is-refusal-requires c κs = search needs
 
 returns : tie.Need-returns
-returns c = let a = c .before .before .before .before .before .args in
-    write-refused (a .block .now) (a .out .now) (c .before .before .block-reply .ensures) (sym (c .before .is-refusal .ensures) ∙ c .if1 .taken)
+returns c =
+    let asked = c .before in
+    let a = asked .before .before .before .before .args in
+    write-refused (a .block .now) (a .out .now) (asked .before .block-reply .ensures) (sym (asked .is-refusal .ensures) ∙ c .if1 .taken)
 
 slice-aggregate-put-form : tie.Need-slice-aggregate-put-form
 slice-aggregate-put-form c = search needs
 
 -- the block is good once its reply does not refuse
 abbrev good : (c : tie.Else1) → GoodBlock (c .before .before .before .before .before .args .block .now)
-good c = good-block _ (tested (c .before .before .block-reply .ensures) (c .before .is-refusal .ensures) (c .if1 .left))
+good c =
+    let asked = c .before in
+    good-block _ (tested (asked .before .block-reply .ensures) (asked .is-refusal .ensures) (c .if1 .left))
+
+-- and its solved form, in the array, is short enough
+abbrev short : (c : tie.After-put-form) → c .put-form .result ≤ 4358
+short c =
+    let passed = c .before .before in
+    form-short (passed .before .before .before .before .before .args .block .now) (good passed .well .v-high) (c .put-form .ensures)
 
 put-form-requires : tie.Need-put-form-requires
 put-form-requires c κs = let g = good (c .before) in (g .size, g .well .v-high, refl)
 
 returns-2 : tie.Need-returns-2
-returns-2 c = let a = c .before .before .before .before .before .before .before .before .before .args in
-    write-short (a .block .now) (a .out .now) (good (c .before .before .before .before)) (omega (arith, c .if2 .taken, c .before .before .put-form .ensures .ends))
+returns-2 c =
+    let formed = c .before .before in
+    let passed = formed .before .before in
+    let a = passed .before .before .before .before .before .args in
+    write-short (a .block .now) (a .out .now) (good passed) (omega (arith, c .if2 .taken, formed .put-form .ensures .ends))
 
 slice-relend-prefix-copy-front : tie.Need-slice-relend-prefix-copy-front
 slice-relend-prefix-copy-front c = search needs
@@ -46,21 +60,26 @@ slice-aggregate-copy-front-2 : tie.Need-slice-aggregate-copy-front-2
 slice-aggregate-copy-front-2 c = search needs
 
 copy-front-requires : tie.Need-copy-front-requires
-copy-front-requires c κs = let p = c .before .before .before .before .put-form .ensures in
-    let short = form-short (c .before .before .before .before .before .before .before .before .before .before .before .args .block .now) (good (c .before .before .before .before .before .before) .well .v-high) p in
-    rw length-take (omega (arith, p .size, short))
+copy-front-requires c κs =
+    let formed = c .before .before .before .before in
+    rw length-take (omega (arith, formed .put-form .ensures .size, short formed))
 
 cast-t16 : tie.Need-cast-t16
-cast-t16 c = omega (arith, form-short (c .before .before .before .before .before .before .before .before .before .before .before .before .before .before .args .block .now) (good (c .before .before .before .before .before .before .before .before .before) .well .v-high) (c .before .before .before .before .before .before .before .put-form .ensures))
+cast-t16 c = omega (arith, short (c .before .before .before .before .before .before .before))
 
 same-length : tie.Need-same-length
 same-length c = search needs
 
 returns-3 : tie.Need-returns-3
-returns-3 c = let a = c .before .before .before .before .before .before .before .before .before .before .before .before .before .before .args in let p = c .before .before .before .before .before .before .before .put-form .ensures in
-    let h = c .before .before .before .before .before .if2 .left in
-    write-done (a .block .now) (a .out .now) (good (c .before .before .before .before .before .before .before .before .before)) (omega (arith, p .ends)) h
-    (copied-out (solvedForm (a .block .now)) (a .out .now) p h (c .before .before .copy-front .ensures))
+returns-3 c =
+    let copied = c .before .before in
+    let test = copied .before .before .before in
+    let formed = test .before .before in
+    let passed = formed .before .before in
+    let a = passed .before .before .before .before .before .args in
+    let p = formed .put-form .ensures in
+    write-done (a .block .now) (a .out .now) (good passed) (omega (arith, p .ends)) (test .if2 .left)
+    (copied-out (solvedForm (a .block .now)) (a .out .now) p (test .if2 .left) (copied .copy-front .ensures))
 
 pub write-spec : {M : Type 1} → statement M
 write-spec =
