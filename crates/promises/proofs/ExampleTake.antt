@@ -1,0 +1,149 @@
+-- Taking in the examples: F, on a fresh block, means what the four facts of P5 mean, by the order of the house kinds; and 2, which is a left
+-- forearm then, clashes with "right". Each is a result that taking allows, so that it is the only one.
+-- Assumes nothing.
+use mathlib.Core.Path.{_≡_, refl, sym, ap, _∙_}
+use mathlib.Core.List.{List, [], _∷_, _++_}
+use Prim.Native.Nat.{ℕ, _<_}
+use lib.Dec.{lit<}
+use Rattle.replies.specs.declared.Reply.{Reply}
+use Rattle.replies.specs.declared.Reply.the-variants.{Done, Clash}
+use Rattle.replies.specs.Replies.{refuses}
+use Rattle.replies.proofs.Laws.{or-second}
+use Rattle.kinds.specs.Kinds.{Under, meetAt}
+use Rattle.kinds.proofs.Order.{under-trans, under-none, meet-greatest}
+use Rattle.house.specs.Meets.{houseTable}
+use Rattle.house.proofs.Rule.{house-lawful}
+use Rattle.meaning.specs.declared.RigJoint.{RigJoint}
+use Rattle.meaning.specs.Picture.{Picture, Fact, All, SameMeaning, Every, Clash as NoPicture}
+use Rattle.meaning.specs.Picture.Fact.{has-kind, leads}
+use Rattle.meaning.specs.Form.{rigJoint}
+use Rattle.packets.specs.Packet.{packetReply, factsWanted, factFits, firstUnfit}
+use Rattle.packets.specs.Facts.{rigFacts, factOf, each}
+use Rattle.blocks.specs.Layout.{kindsOf, jointsOf, tableOf}
+use Rattle.blocks.proofs.Shape.{put-together}
+use Rattle.blocks.proofs.Bytes.{Opened}
+use Rattle.session.specs.Block.{taken, blockReply}
+use Rattle.session.specs.Take.{takeRefusal, Take}
+use Rattle.session.specs.Take.Take.{clashes, done}
+use Rattle.session.proofs.Blocks.{GoodBlock, block-done}
+use Rattle.session.proofs.OneTake.{take-one}
+use Rattle.promises.specs.Examples.{opened, factsF, fact12, Takes}
+use Rattle.promises.proofs.ExampleBlock.{fresh-is, fresh-good, fresh-taken, fresh-count, afterF, after-is, after-good, factsAfter, after-taken, after-count}
+
+abbrev pub houseMeet : ℕ → ℕ → ℕ
+houseMeet = meetAt 33 houseTable
+
+-- the one result
+pub takes : {b p : List ℕ} {reply : Reply} {after : List ℕ} → Take b p reply after → Takes b p reply after
+takes {b} {p} t r x = (λ u. take-one u t, λ e. rw (e .0, e .1) t)
+
+-- a packet that is not refused for 33 kinds and 4 joints is not refused by a block of so many
+not-refused :
+    {b : List ℕ} (p : List ℕ) → GoodBlock b → Opened 33 4 houseTable b → packetReply (factsWanted 4) 33 4 p ≡ Done 0 →
+    takeRefusal b p ≡ Done 0
+unfolding takeRefusal
+not-refused {b} p g o e =
+    or-second (blockReply b) (packetReply (factsWanted (jointsOf b)) (kindsOf b) (jointsOf b) p) (ap refuses (block-done g))
+    ∙ rw (o .kinds, o .joints) e
+
+factsF-fit : packetReply (factsWanted 4) 33 4 factsF ≡ Done 0
+unfolding packetReply factsF factFits firstUnfit
+factsF-fit = refl
+
+fact12-fits : packetReply (factsWanted 4) 33 4 fact12 ≡ Done 0
+unfolding packetReply fact12 factFits firstUnfit
+fact12-fits = refl
+
+-- what the packets say
+abbrev saidF : List (Fact RigJoint)
+saidF =
+    has-kind (rigJoint 0) 9 ∷ has-kind (rigJoint 0) 2
+    ∷ leads (rigJoint 0) 1 (rigJoint 1) ∷ leads (rigJoint 0) 1 (rigJoint 2)
+    ∷ has-kind (rigJoint 1) 16 ∷ has-kind (rigJoint 2) 2
+    ∷ []
+
+factsF-say : rigFacts factsF ≡ saidF
+unfolding factsF factOf each
+factsF-say = refl
+
+fact12-says : rigFacts fact12 ≡ has-kind (rigJoint 2) 3 ∷ []
+unfolding fact12 factOf each
+fact12-says = refl
+
+-- the kind of an element under a greater one, and under two
+module _ (P : Picture 33) (e : ℕ) where
+  pub rises : (s t : ℕ) → s < 33 → t < 33 → houseMeet s t ≡ s → Under houseMeet (P .kind e) s → Under houseMeet (P .kind e) t
+  rises s t hs ht m u = under-trans house-lawful (P .kind e) s t (P .in-range e) hs ht u m
+
+  pub under-both :
+      (s t m : ℕ) → s < 33 → t < 33 → houseMeet s t ≡ m → Under houseMeet (P .kind e) s → Under houseMeet (P .kind e) t →
+      Under houseMeet (P .kind e) m
+  under-both s t m hs ht q u w = rw q at (meet-greatest house-lawful (P .kind e) s t (P .in-range e) hs ht u w)
+
+-- F means what its solved form means
+module _ (P : Picture 33) (σ : RigJoint → ℕ) where
+  to-said : All houseMeet P σ factsAfter → All houseMeet P σ saidF
+  unfolding houseTable
+  to-said a =
+      let left-arm = a .0 in
+      let link = a .1 .0 in
+      let left-forearm = a .1 .1 .0 in
+      let one = a .1 .1 .1 .0 in
+      let arm-part = rises P (σ (rigJoint 0)) 11 9 (lit< tt) (lit< tt) refl left-arm in
+      let left = rises P (σ (rigJoint 0)) 11 2 (lit< tt) (lit< tt) refl left-arm in
+      let forearm = rises P (σ (rigJoint 1)) 23 16 (lit< tt) (lit< tt) refl left-forearm in
+      let left-1 = rises P (σ (rigJoint 1)) 23 2 (lit< tt) (lit< tt) refl left-forearm in
+      (arm-part, (left, (link, (link ∙ sym one, (forearm, (rw one left-1, tt))))))
+
+  from-said : All houseMeet P σ saidF → All houseMeet P σ factsAfter
+  unfolding houseTable
+  from-said a =
+      let link-1 = a .1 .1 .0 in
+      let link-2 = a .1 .1 .1 .0 in
+      let one : σ (rigJoint 2) ≡ σ (rigJoint 1) = sym link-2 ∙ link-1 in
+      let forearm = a .1 .1 .1 .1 .0 in
+      let left-1 = rw one at (a .1 .1 .1 .1 .1 .0) in
+      let left-arm = under-both P (σ (rigJoint 0)) 9 2 11 (lit< tt) (lit< tt) refl (a .0) (a .1 .0) in
+      let left-forearm = under-both P (σ (rigJoint 1)) 16 2 23 (lit< tt) (lit< tt) refl forearm left-1 in
+      (left-arm, (link-1, (left-forearm, (one, tt))))
+
+same-F : SameMeaning {n = 33} houseMeet Every factsAfter saidF
+same-F P σ _ placed = (to-said P σ, from-said P σ)
+
+-- P4: F is taken with 1 join
+pub takes-F : Takes opened factsF (Done 1) afterF
+takes-F =
+    takes
+    (done (not-refused factsF fresh-good fresh-is factsF-fit)
+    (record {
+      size = after-is .size;
+      well = put-together afterF (after-good .well);
+      kinds = after-is .kinds;
+      joints = after-is .joints;
+      table = after-is .table ∙ sym (fresh-is .table);
+      means = rw (after-taken, fresh-taken, factsF-say, fresh-is .table) same-F;
+    })
+    (rw (fresh-count, after-count)))
+
+-- what holds for 33 kinds, the house table and the four facts holds for those of the block after F
+pub of-after : (X : ℕ → List ℕ → List (Fact RigJoint) → Type 0) → X 33 houseTable factsAfter → X (kindsOf afterF) (tableOf afterF) (taken afterF)
+of-after X x = rw (after-taken, after-is .table, after-is .kinds) x
+
+-- a left forearm is not right
+clash-12 : NoPicture {n = 33} houseMeet Every (factsAfter ++ (has-kind (rigJoint 2) 3 ∷ []))
+unfolding houseTable
+clash-12 P σ _ placed a =
+    let forearm = a .1 .1 .0 in
+    let right = rw (a .1 .1 .1 .0) at (a .1 .1 .1 .1 .0) in
+    let e = σ (rigJoint 1) in
+    placed (rigJoint 1)
+    (under-none house-lawful (P .kind e) (lit< tt) (P .in-range e)
+    (under-both P e 23 3 0 (lit< tt) (lit< tt) refl forearm right))
+
+-- P12: then "2 has kind 3" clashes, and the block is unchanged
+pub takes-12 : Takes afterF fact12 Clash afterF
+takes-12 =
+    takes
+    (clashes (not-refused fact12 after-good after-is fact12-fits)
+    (of-after (λ n t fs. NoPicture {n = n} (meetAt n t) Every (fs ++ rigFacts fact12)) (rw fact12-says clash-12))
+    refl refl)

@@ -1,0 +1,4 @@
+pub mod ExampleBlock
+pub mod ExampleTake
+pub mod ExampleAsk
+pub mod Examples

@@ -1,0 +1,154 @@
+-- The examples P1 to P12 as one list, and before it their packets, byte by byte: L in two bytes, version, purpose, ties, joint count, then the
+-- ties (rule joint, rig joint) and the facts. House kinds, V = 4.
+-- Assumes nothing.
+use mathlib.Core.Path.{_≡_}
+use mathlib.Core.Logic.{_↔_}
+use mathlib.Core.List.{List, [], _∷_}
+use Prim.Native.Nat.{ℕ}
+use lib.ListN.{length}
+use Rattle.replies.specs.declared.Reply.{Reply}
+use Rattle.replies.specs.declared.Reply.the-variants.{Done, Clash}
+use Rattle.kinds.specs.Kinds.{meetAt}
+use Rattle.house.specs.Meets.{houseTable}
+use Rattle.meaning.specs.declared.Verdict.{Verdict}
+use Rattle.meaning.specs.declared.Verdict.the-variants.{Applies, RuledOut, Waits}
+use Rattle.meaning.specs.Rule.{verdictNumber}
+use Rattle.blocks.specs.Layout.{blockSize, freshBlock}
+use Rattle.session.specs.Open.{openReply, openBlock}
+use Rattle.session.specs.Take.{Take}
+use Rattle.session.specs.Ask.{Ask}
+use Rattle.session.specs.Write.{solvedForm}
+
+-- the facts F
+unfoldable pub factsF : List ℕ
+factsF =
+    0x00 ∷ 0x1C ∷ 1 ∷ 1 ∷ 0 ∷ 4
+    -- 0 has kind 9
+    ∷ 1 ∷ 0 ∷ 9 ∷ 0
+    -- 0 has kind 2
+    ∷ 1 ∷ 0 ∷ 2 ∷ 0
+    -- 0.1 is 1
+    ∷ 3 ∷ 0 ∷ 1 ∷ 1
+    -- 0.1 is 2
+    ∷ 3 ∷ 0 ∷ 1 ∷ 2
+    -- 1 has kind 16
+    ∷ 1 ∷ 1 ∷ 16 ∷ 0
+    -- 2 has kind 2
+    ∷ 1 ∷ 2 ∷ 2 ∷ 0
+    ∷ []
+
+-- the solved form of P5
+unfoldable pub solvedF : List ℕ
+solvedF =
+    0x00 ∷ 0x14 ∷ 0x01 ∷ 0x01 ∷ 0x00 ∷ 0x04
+    ∷ 0x01 ∷ 0x00 ∷ 0x0B ∷ 0x00
+    ∷ 0x03 ∷ 0x00 ∷ 0x01 ∷ 0x01
+    ∷ 0x01 ∷ 0x01 ∷ 0x17 ∷ 0x00
+    ∷ 0x02 ∷ 0x02 ∷ 0x01 ∷ 0x00
+    ∷ []
+
+-- the rule of P6
+unfoldable pub rule6 : List ℕ
+rule6 =
+    0x00 ∷ 0x12 ∷ 1 ∷ 2 ∷ 1 ∷ 2
+    -- rule joint 0 tied to rig joint 0
+    ∷ 0 ∷ 0
+    -- 0 has kind 9
+    ∷ 1 ∷ 0 ∷ 9 ∷ 0
+    -- 0.1 is 1
+    ∷ 3 ∷ 0 ∷ 1 ∷ 1
+    -- 1 has kind 2
+    ∷ 1 ∷ 1 ∷ 2 ∷ 0
+    ∷ []
+
+-- the rule of P7: that of P6 with kind 3 last
+unfoldable pub rule7 : List ℕ
+rule7 =
+    0x00 ∷ 0x12 ∷ 1 ∷ 2 ∷ 1 ∷ 2
+    -- rule joint 0 tied to rig joint 0
+    ∷ 0 ∷ 0
+    -- 0 has kind 9
+    ∷ 1 ∷ 0 ∷ 9 ∷ 0
+    -- 0.1 is 1
+    ∷ 3 ∷ 0 ∷ 1 ∷ 1
+    -- 1 has kind 3
+    ∷ 1 ∷ 1 ∷ 3 ∷ 0
+    ∷ []
+
+-- the rule of P8
+unfoldable pub rule8 : List ℕ
+rule8 =
+    0x00 ∷ 0x0A ∷ 1 ∷ 2 ∷ 1 ∷ 1
+    -- rule joint 0 tied to rig joint 0
+    ∷ 0 ∷ 0
+    -- 0 has kind 21
+    ∷ 1 ∷ 0 ∷ 21 ∷ 0
+    ∷ []
+
+-- the rule of P9
+unfoldable pub rule9 : List ℕ
+rule9 =
+    0x00 ∷ 0x0A ∷ 1 ∷ 2 ∷ 1 ∷ 2
+    -- rule joint 0 tied to rig joint 0
+    ∷ 0 ∷ 0
+    -- 0.2 is 1
+    ∷ 3 ∷ 0 ∷ 2 ∷ 1
+    ∷ []
+
+-- the rule of P10: rule joint 0 tied to rig joints 1 and 2
+unfoldable pub rule10 : List ℕ
+rule10 =
+    0x00 ∷ 0x08 ∷ 1 ∷ 2 ∷ 2 ∷ 1
+    ∷ 0 ∷ 1
+    ∷ 0 ∷ 2
+    ∷ []
+
+-- the rule of P11: rule joint 0 tied to rig joints 1 and 3
+unfoldable pub rule11 : List ℕ
+rule11 =
+    0x00 ∷ 0x08 ∷ 1 ∷ 2 ∷ 2 ∷ 1
+    ∷ 0 ∷ 1
+    ∷ 0 ∷ 3
+    ∷ []
+
+-- the fact of P12
+unfoldable pub fact12 : List ℕ
+fact12 =
+    0x00 ∷ 0x08 ∷ 1 ∷ 1 ∷ 0 ∷ 4
+    -- 2 has kind 3
+    ∷ 1 ∷ 2 ∷ 3 ∷ 0
+    ∷ []
+
+-- taking the packet gives this reply, and this block afterwards: the contract allows them, and no others
+abbrev pub Takes : List ℕ → List ℕ → Reply → List ℕ → Type 0
+Takes b p reply after = (r : Reply) (x : List ℕ) → Take b p r x ↔ ((r ≡ reply) × (x ≡ after))
+
+-- asking the packet gives this verdict: the contract allows it, and no other reply
+abbrev pub Answers : List ℕ → List ℕ → Verdict → Type 0
+Answers b p verdict = (r : Reply) → Ask b p r ↔ (r ≡ Done (verdictNumber verdict))
+
+-- the block that opening writes
+abbrev pub opened : List ℕ
+opened = freshBlock 33 4 houseTable
+
+pub record Examples : Type 0 where
+  -- whatever the block's bytes were, opening it gives `opened`
+  pub opens : (b : List ℕ) → length b ≡ blockSize → (openReply 33 4 houseTable b ≡ Done 0) × (openBlock 33 4 houseTable b ≡ opened)
+  pub p1 : meetAt 33 houseTable 2 9 ≡ 11
+  pub p2 : meetAt 33 houseTable 3 17 ≡ 26
+  pub p3 : meetAt 33 houseTable 11 18 ≡ 0
+  -- the block after F
+  pub after : List ℕ
+  -- F is taken with 1 join
+  pub p4 : Takes opened factsF (Done 1) after
+  -- its solved form
+  pub p5 : solvedForm after ≡ solvedF
+  -- the verdicts on the rules, after F
+  pub p6 : Answers after rule6 Applies
+  pub p7 : Answers after rule7 RuledOut
+  pub p8 : Answers after rule8 Waits
+  pub p9 : Answers after rule9 Waits
+  pub p10 : Answers after rule10 Applies
+  pub p11 : Answers after rule11 Waits
+  -- F, then "2 has kind 3": 11, block unchanged
+  pub p12 : Takes after fact12 Clash after
