@@ -75,19 +75,19 @@ fn solve(block: &[u8], packet: &[u8]) -> Outcome
     let start = form::unpack(block, v, 0);
     let end = 1154 + n * n;
     let next = with_facts(start, &block[1154..end], n, v, packet);
-    let form = next.form;
+    let taken = next.form;
     if !next.ok {
         return Outcome {
             ok: false,
             joins: 0,
-            form,
+            form: start,
         };
     }
-    let joins = solver::classes_in(start, v) - solver::classes_in(form, v);
+    let joins = solver::classes_in(start, v) - solver::classes_in(taken, v);
     Outcome {
         ok: true,
         joins: joins as u32,
-        form,
+        form: taken,
     }
 }
 
