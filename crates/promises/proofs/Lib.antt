@@ -1,0 +1,4 @@
+pub mod Sessions
+pub mod Refusals
+pub mod Later
+pub mod Demand3
