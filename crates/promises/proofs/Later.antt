@@ -64,14 +64,14 @@ module _ {b c : List ℕ} {sent : List Sent} (cs : Calls b sent c) (g : GoodBloc
   take-goes-on p = goes-on-later (λ n v. packetReply (factsWanted v) n v p)
 
 -- the verdict on a rule given what a block has taken
-abbrev JudgedAt : List ℕ → List ℕ → Verdict → Type 0
+abbrev pub JudgedAt : List ℕ → List ℕ → Verdict → Type 0
 JudgedAt b p = Judged {n = kindsOf b} (meetOf b) Every (taken b) (ruleOf p)
 
 -- what an asking that is done tells
-record Answered (b p : List ℕ) (x : Verdict) : Type 0 where
-  goes-on : askRefusal b p ≡ Done 0
-  reached : ReachReply (ruleOf p) (Done 0)
-  judged : JudgedAt b p x
+pub record Answered (b p : List ℕ) (x : Verdict) : Type 0 where
+  pub goes-on : askRefusal b p ≡ Done 0
+  pub reached : ReachReply (ruleOf p) (Done 0)
+  pub judged : JudgedAt b p x
 
 -- a verdict is known by its number
 verdictOf : ℕ → Verdict
@@ -83,7 +83,7 @@ verdict-of verdict.Applies = refl
 verdict-of verdict.RuledOut = refl
 verdict-of verdict.Waits = refl
 
-answered : {b p : List ℕ} (x : Verdict) → Ask b p (Done (verdictNumber x)) → Answered b p x
+pub answered : {b p : List ℕ} (x : Verdict) → Ask b p (Done (verdictNumber x)) → Answered b p x
 answered x (ask-refused e q) = absurd (true≢false (sym e ∙ ap refuses (sym q)))
 answered x (unreached d r e) = absurd (true≢false (sym e))
 answered {b} {p} x (judged d r y j q) =
@@ -118,11 +118,11 @@ verdict-stays {b} {p = p} x d before cs after =
     ask-one after (judged (ask-goes-on cs g p (a .goes-on)) (a .reached) x (judged-later p x d cs g (a .judged)) refl)
 
 -- what a taking that clashes tells
-record Clashed (b p : List ℕ) : Type 0 where
-  goes-on : takeRefusal b p ≡ Done 0
-  no-picture : NoPicture {n = kindsOf b} (meetOf b) Every (taken b ++ rigFacts p)
+pub record Clashed (b p : List ℕ) : Type 0 where
+  pub goes-on : takeRefusal b p ≡ Done 0
+  pub no-picture : NoPicture {n = kindsOf b} (meetOf b) Every (taken b ++ rigFacts p)
 
-clashed : {b p after : List ℕ} → Take b p Clash after → Clashed b p
+pub clashed : {b p after : List ℕ} → Take b p Clash after → Clashed b p
 clashed {b} {p} (take-refused e q _) = absurd (refusal-no-clash b p (sym q))
 clashed (clashes d f _ _) = record { goes-on = d; no-picture = f }
 clashed (done d a q) = absurd (true≢false (ap refuses q))

@@ -1,4 +1,6 @@
 pub mod Sessions
 pub mod Refusals
 pub mod Later
+pub mod Demand2
 pub mod Demand3
+pub mod OneResult

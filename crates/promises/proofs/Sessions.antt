@@ -202,6 +202,23 @@ facts-hold meet P σ (s ∷ sent) holds =
     let all = all-append meet P σ (rigFacts (s .packet)) (factsTaken sent) (holds s (List·Memᴰ·head refl)) rest in
     chosen-hold meet P σ (refuses (s .reply)) (factsTaken sent) (rigFacts (s .packet) ++ factsTaken sent) rest all
 
+without-first :
+    {n : ℕ} (meet : ℕ → ℕ → ℕ) (P : Picture n) (σ : RigJoint → ℕ) (t : Bool) (fs gs : List (Fact RigJoint)) →
+    All meet P σ (cond t gs (fs ++ gs)) → All meet P σ gs
+without-first meet P σ true fs gs a = a
+without-first meet P σ false fs gs a = all-right meet P σ fs gs a
+
+-- and where the facts taken hold, so do those of every packet that was taken
+pub packet-holds :
+    {n : ℕ} (meet : ℕ → ℕ → ℕ) (P : Picture n) (σ : RigJoint → ℕ) {sent : List Sent} {s : Sent} → List·Memᴰ s sent →
+    refuses (s .reply) ≡ false → All meet P σ (factsTaken sent) → All meet P σ (rigFacts (s .packet))
+unfolding factsTaken
+packet-holds meet P σ {s = s} (List·Memᴰ·head {x} {xs} e) taken a =
+    let first = rw (facts-done x xs (ap (λ (t : Sent). refuses (t .reply)) (sym e) ∙ taken)) at a in
+    subst (λ (t : Sent). All meet P σ (rigFacts (t .packet))) (sym e) (all-left meet P σ (rigFacts (x .packet)) (factsTaken xs) first)
+packet-holds meet P σ (List·Memᴰ·tail {x} {xs} d) taken a =
+    packet-holds meet P σ d taken (without-first meet P σ (refuses (x .reply)) (rigFacts (x .packet)) (factsTaken xs) a)
+
 -- the moment at which a packet of a session was sent: what was sent before it, and the block then
 pub record Moment (first : List ℕ) (sent : List Sent) (s : Sent) : Type 0 where
   pub before : List Sent
