@@ -14,7 +14,7 @@ use Rattle.kinds.specs.Kinds.{meetAt}
 use Rattle.meaning.specs.declared.RigJoint.{RigJoint}
 use Rattle.meaning.specs.declared.Verdict.the-variants as verdict
 use Rattle.meaning.specs.Picture.{Picture, Placing, All, SameMeaning, Every, Clash as NoPicture}
-use Rattle.meaning.specs.Rule.{Applies, RuledOut, verdictNumber}
+use Rattle.meaning.specs.Rule.{verdictNumber}
 use Rattle.meaning.proofs.Later.{members-follow}
 use Rattle.meaning.proofs.Facts.{all-append}
 use Rattle.packets.specs.Packet.{packetReply, factsWanted}
@@ -26,11 +26,11 @@ use Rattle.session.specs.Open.{openBlock}
 use Rattle.session.specs.Take.{Take, takeRefusal}
 use Rattle.session.specs.Take.Take.{refused as take-refused, clashes, done}
 use Rattle.session.specs.Ask.{Ask}
-use Rattle.session.proofs.Opening.{opens}
 use Rattle.session.proofs.Asking.{ask-one}
 use Rattle.promises.specs.Sessions.{Sent, Calls, Session, factsTaken, SameFacts}
 use Rattle.promises.proofs.Later.{verdict-stays, still-clashes}
-use Rattle.promises.proofs.Sessions.{moved, meaning-moved, same-kinds, sent-goes-on, facts-hold, Moment, moment, session-good, session-opened, session-means, session-taken}
+use Rattle.promises.proofs.Sessions.{moved, meaning-moved, session-good, session-opened, session-means, session-taken, same-kinds}
+use Rattle.promises.proofs.Sessions.{sent-goes-on, facts-hold, Moment, moment}
 
 -- "within a session of demand 3 they mean the same as all facts taken since opening" (01, of the taken facts)
 pub taken-since-opening :

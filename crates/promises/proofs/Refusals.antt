@@ -14,7 +14,8 @@ use Rattle.replies.specs.Replies.{refuses, orElse}
 use Rattle.tables.specs.Check.{Law, breach, keeps, firstBreach, tableReply, inOrder}
 use Rattle.tables.specs.Check.Law.{entry, self, none, any, swap, group}
 use Rattle.packets.specs.declared.Wanted.{Wanted}
-use Rattle.packets.specs.Packet.{version, purpose, ties, joints, tieAt, factAt, factCount, lengthFits, countFits, within, tieFits, factFits, firstUnfit, tiesReply, factsReply, packetReply, factsWanted, ruleWanted}
+use Rattle.packets.specs.Packet.{version, purpose, ties, joints, tieAt, factAt, factCount, lengthFits, countFits, within, tieFits, factFits}
+use Rattle.packets.specs.Packet.{firstUnfit, tiesReply, factsReply, packetReply, factsWanted, ruleWanted}
 use Rattle.blocks.specs.Layout.{blockSize, kindsOf, jointsOf}
 use Rattle.blocks.specs.WellFormed.{wellFormed}
 use Rattle.session.specs.Block.{blockReply}

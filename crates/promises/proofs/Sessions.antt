@@ -4,7 +4,8 @@
 use mathlib.Core.Path.{_≡_, refl, sym, _∙_, ap, subst}
 use mathlib.Core.Logic.{by-cases, ⊎-elim}
 use mathlib.Core.Bool.{Bool, true, false, cond}
-use mathlib.Core.List.{List, [], _∷_, _++_, append-assoc, append-nil, List·Memᴰ, List·Memᴰ·head, List·Memᴰ·tail, List·Memᴰ·not-nil, List·Memᴰ·cases-cons}
+use mathlib.Core.List.{List, [], _∷_, _++_, append-assoc, append-nil}
+use mathlib.Core.List.{List·Memᴰ, List·Memᴰ·head, List·Memᴰ·tail, List·Memᴰ·not-nil, List·Memᴰ·cases-cons}
 use Prim.Native.Nat.{ℕ, _*_}
 use native.Mathlib.Omega.{arith}
 use native.Mathlib.Decide.{decLt}
@@ -15,10 +16,10 @@ use Rattle.replies.proofs.Laws.{or-second}
 use Rattle.kinds.specs.Kinds.{meetAt}
 use Rattle.meaning.specs.declared.RigJoint.{RigJoint}
 use Rattle.meaning.specs.Picture.{Picture, Fact, All, SameMeaning, Every}
+use Rattle.meaning.specs.Form.{takenFacts}
 use Rattle.meaning.proofs.Facts.{all-append, all-left, all-right}
 use Rattle.packets.specs.Packet.{packetReply, factsWanted}
 use Rattle.packets.specs.Facts.{rigFacts}
-use Rattle.meaning.specs.Form.{takenFacts}
 use Rattle.blocks.specs.Layout.{kindsOf, jointsOf, tableOf, blockForm, freshBlock}
 use Rattle.blocks.proofs.Shape.{put-together}
 use Rattle.blocks.proofs.Bytes.{Opened, Means}
@@ -115,6 +116,17 @@ calls-after g none = after-none g
 calls-after g (taking {sent = sent} s t cs) = first-taken s sent g t (λ h. calls-after h cs)
 calls-after g (asking _ cs) = calls-after g cs
 calls-after g (writing _ cs) = calls-after g cs
+
+calls-then : {a b c : List ℕ} {sent more : List Sent} → Calls a sent b → Calls b more c → Calls a (sent ++ more) c
+calls-then none more = more
+calls-then (taking s t cs) more = taking s t (calls-then cs more)
+calls-then (asking a cs) more = asking a (calls-then cs more)
+calls-then (writing out cs) more = writing out (calls-then cs more)
+
+-- a later block of a session is one of the same session
+pub session-later :
+    {n v : ℕ} {table b c : List ℕ} {sent more : List Sent} → Session n v table sent b → Calls b more c → Session n v table (sent ++ more) c
+session-later s more = record { lent = s .lent; opens = s .opens; calls = calls-then (s .calls) more }
 
 module _ {n v : ℕ} {table : List ℕ} {sent : List Sent} {b : List ℕ} (s : Session n v table sent b) where
   -- what opening wrote
