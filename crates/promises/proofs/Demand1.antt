@@ -23,7 +23,8 @@ use Rattle.session.proofs.Opening.{stays}
 use Rattle.house.specs.Meets.{houseTable}
 use Rattle.vornulica.specs.House.{houseReply, houseBuffer}
 use Rattle.promises.specs.Answers.{listed, gives, openNumbers, takeNumbers, askNumbers, writeNumbers}
-use Rattle.promises.proofs.Refusals.{listed-more, either, earlyNumbers, open-gives, block-gives, take-refusal-gives, ask-refusal-gives}
+use Rattle.promises.proofs.Refusals.{listed-more, either, earlyNumbers, open-gives, block-gives, take-refusal-gives}
+use Rattle.promises.proofs.Refusals.{ask-refusal-gives}
 
 -- "For every input each call ends with an answer from document 01's table": those listed for the call
 pub open-answers : (n v : ℕ) (table b : List ℕ) → gives openNumbers (openReply n v table b) ≡ true

@@ -23,13 +23,13 @@ use Rattle.packets.specs.Facts.{rigFacts}
 use Rattle.blocks.specs.Layout.{kindsOf, jointsOf, tableOf, blockForm, freshBlock}
 use Rattle.blocks.proofs.Shape.{put-together}
 use Rattle.blocks.proofs.Bytes.{Opened, Means}
-use Rattle.blocks.proofs.Fresh.{fresh-opened, fresh-well, fresh-facts}
-use Rattle.session.specs.Block.{blockReply, meetOf, taken}
-use Rattle.session.specs.Open.{openBlock}
+use Rattle.blocks.proofs.Fresh.{fresh-opened, fresh-well, fresh-facts, fresh-classes}
+use Rattle.session.specs.Block.{blockReply, meetOf, taken, classCount}
+use Rattle.session.specs.Open.{openReply, openBlock}
 use Rattle.session.specs.Take.{After, Take, takeRefusal}
 use Rattle.session.specs.Take.Take.{refused, clashes, done}
 use Rattle.session.proofs.Blocks.{GoodBlock, block-done}
-use Rattle.session.proofs.Opening.{opens, is-fresh}
+use Rattle.session.proofs.Opening.{Fitting, opens, is-fresh}
 use Rattle.session.proofs.OneTake.{after-well, after-means}
 use Rattle.promises.specs.Sessions.{Sent, Calls, Session, factsTaken}
 use Rattle.promises.specs.Sessions.Calls.{none, taking, asking, writing}
@@ -128,45 +128,53 @@ pub session-later :
     {n v : ℕ} {table b c : List ℕ} {sent more : List Sent} → Session n v table sent b → Calls b more c → Session n v table (sent ++ more) c
 session-later s more = record { lent = s .lent; opens = s .opens; calls = calls-then (s .calls) more }
 
-module _ {n v : ℕ} {table : List ℕ} {sent : List Sent} {b : List ℕ} (s : Session n v table sent b) where
-  -- what opening wrote
-  fresh : openBlock n v table (s .lent) ≡ freshBlock n v table
-  fresh = sym (is-fresh n v table (s .lent) (s .opens))
+-- what opening writes, where it does not refuse: a good block of its n, V and table that has taken nothing
+module _ (n v : ℕ) (table lent : List ℕ) (o : refuses (openReply n v table lent) ≡ false) where
+  pub opening-writes : openBlock n v table lent ≡ freshBlock n v table
+  opening-writes = sym (is-fresh n v table lent o)
 
-  from-fresh : Calls (freshBlock n v table) sent b
-  from-fresh = rw fresh at (s .calls)
+  opening : Fitting n v table lent
+  opening = opens n v table lent o .0
 
-  fresh-good : GoodBlock (freshBlock n v table)
+  pub fresh-good : GoodBlock (freshBlock n v table)
   fresh-good =
-      let o = opens n v table (s .lent) (s .opens) in
-      let f = o .0 in
       record {
-        size = fresh-opened n v table (f .sized) (f .v-high) .size;
-        well = fresh-well n v table (f .sized) (f .v-high) (f .v-low) (o .1);
+        size = fresh-opened n v table (opening .sized) (opening .v-high) .size;
+        well = fresh-well n v table (opening .sized) (opening .v-high) (opening .v-low) (opens n v table lent o .1);
       }
 
+  pub fresh-table : tableOf (freshBlock n v table) ≡ table
+  fresh-table = fresh-opened n v table (opening .sized) (opening .v-high) .table
+
+  pub fresh-taken : taken (freshBlock n v table) ≡ []
+  fresh-taken = fresh-facts n v table (opening .sized) (opening .v-high)
+
+  pub fresh-count : classCount (freshBlock n v table) ≡ v
+  fresh-count = fresh-classes n v table (opening .sized) (opening .v-high)
+
+module _ {n v : ℕ} {table : List ℕ} {sent : List Sent} {b : List ℕ} (s : Session n v table sent b) where
+  from-fresh : Calls (freshBlock n v table) sent b
+  from-fresh = rw (opening-writes n v table (s .lent) (s .opens)) at (s .calls)
+
   session-after : After (freshBlock n v table) (factsTaken sent) b
-  session-after = calls-after fresh-good from-fresh
+  session-after = calls-after (fresh-good n v table (s .lent) (s .opens)) from-fresh
 
   -- the block of a session is well formed, of the n, V and table it was opened with
   pub session-good : GoodBlock b
   session-good = after-good session-after
 
-  fresh-table : tableOf (freshBlock n v table) ≡ table
-  fresh-table = let f = opens n v table (s .lent) (s .opens) .0 in fresh-opened n v table (f .sized) (f .v-high) .table
-
   pub session-opened : Opened n v table b
   session-opened =
-      let a = session-after in record { size = a .size; kinds = a .kinds; joints = a .joints; table = a .table ∙ fresh-table }
+      let a = session-after in
+      record { size = a .size; kinds = a .kinds; joints = a .joints; table = a .table ∙ fresh-table n v table (s .lent) (s .opens) }
 
   -- and it means the facts taken since opening
   pub session-means : Means n v table b (factsTaken sent)
   session-means =
-      let f = opens n v table (s .lent) (s .opens) .0 in
-      let none-taken : taken (freshBlock n v table) ≡ [] = fresh-facts n v table (f .sized) (f .v-high) in
-      let means : Means n v (tableOf (freshBlock n v table)) b (taken (freshBlock n v table) ++ factsTaken sent) = after-means session-after in
-      meaning-moved (takenFacts v (blockForm b)) (factsTaken sent) refl fresh-table
-      (subst (λ (fs : List (Fact RigJoint)). Means n v (tableOf (freshBlock n v table)) b (fs ++ factsTaken sent)) none-taken means)
+      let t = tableOf (freshBlock n v table) in
+      let means : Means n v t b (taken (freshBlock n v table) ++ factsTaken sent) = after-means session-after in
+      meaning-moved (takenFacts v (blockForm b)) (factsTaken sent) refl (fresh-table n v table (s .lent) (s .opens))
+      (subst (λ (fs : List (Fact RigJoint)). Means n v t b (fs ++ factsTaken sent)) (fresh-taken n v table (s .lent) (s .opens)) means)
 
   pub session-taken : SameMeaning {n = n} (meetAt n table) Every (taken b) (factsTaken sent)
   session-taken = subst (λ (w : ℕ). Means n w table b (factsTaken sent)) (sym (session-opened .joints)) session-means
