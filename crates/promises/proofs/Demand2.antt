@@ -1,0 +1,55 @@
+-- Demand 2, sentence by sentence: what the contracts of taking and asking say of each reply, both ways. One way by the cases of a contract,
+-- the other because it allows one reply.
+-- Assumes nothing.
+use mathlib.Core.Path.{_≡_, refl, subst}
+use mathlib.Core.Logic.{_↔_}
+use mathlib.Core.List.{List, _++_}
+use Prim.Native.Nat.{ℕ}
+use Rattle.replies.specs.declared.Reply.{Reply}
+use Rattle.replies.specs.declared.Reply.the-variants.{Done, Clash}
+use Rattle.meaning.specs.declared.Verdict.{Verdict}
+use Rattle.meaning.specs.declared.Verdict.the-variants as verdict
+use Rattle.meaning.specs.Picture.{Every, Clash as NoPicture}
+use Rattle.meaning.specs.Rule.{Applies, RuledOut, verdictNumber}
+use Rattle.packets.specs.Facts.{rigFacts, ruleOf}
+use Rattle.packets.specs.Reached.{ReachReply}
+use Rattle.blocks.specs.Layout.{kindsOf}
+use Rattle.session.specs.Block.{meetOf, taken}
+use Rattle.session.specs.Take.{Take, takeRefusal}
+use Rattle.session.specs.Take.Take.{clashes}
+use Rattle.session.specs.Ask.{Ask, askRefusal}
+use Rattle.session.specs.Ask.Ask.{judged}
+use Rattle.session.proofs.OneTake.{take-one}
+use Rattle.session.proofs.Asking.{ask-one}
+use Rattle.promises.proofs.Later.{JudgedAt, answered, clashed}
+
+-- a packet that no reply from 1 to 9 refuses
+module _ {b p after : List ℕ} {r : Reply} (well : takeRefusal b p ≡ Done 0) (take : Take b p r after) where
+  -- "A well-formed packet is refused for a clash exactly when no rig satisfies it together with the facts already taken."
+  pub clash-exactly : (r ≡ Clash) ↔ NoPicture {n = kindsOf b} (meetOf b) Every (taken b ++ rigFacts p)
+  clash-exactly = (
+    λ e. clashed (subst (λ (x : Reply). Take b p x after) e take) .no-picture,
+    λ f. take-one take (clashes well f refl refl) .0,
+  )
+
+-- a rule that no reply from 1 to 10 refuses
+module _ {b p : List ℕ} {r : Reply} (well : askRefusal b p ≡ Done 0) (reached : ReachReply (ruleOf p) (Done 0)) (ask : Ask b p r) where
+  verdict-exactly : (x : Verdict) → (r ≡ Done (verdictNumber x)) ↔ JudgedAt b p x
+  verdict-exactly x = (
+    λ e. answered x (subst (λ (y : Reply). Ask b p y) e ask) .judged,
+    λ j. ask-one ask (judged well reached x j refl),
+  )
+
+  -- "A well-formed rule applies exactly when every rig satisfying the taken facts satisfies the rule"
+  pub applies-exactly : (r ≡ Done 1) ↔ Applies {n = kindsOf b} (meetOf b) Every (taken b) (ruleOf p)
+  applies-exactly = verdict-exactly verdict.Applies
+
+  -- "is ruled out exactly when none does"
+  pub ruled-out-exactly : (r ≡ Done 2) ↔ RuledOut {n = kindsOf b} (meetOf b) Every (taken b) (ruleOf p)
+  ruled-out-exactly = verdict-exactly verdict.RuledOut
+
+  -- "and waits otherwise"
+  pub waits-exactly :
+      (r ≡ Done 3)
+      ↔ ((Applies {n = kindsOf b} (meetOf b) Every (taken b) (ruleOf p) → ⊥) × (RuledOut {n = kindsOf b} (meetOf b) Every (taken b) (ruleOf p) → ⊥))
+  waits-exactly = verdict-exactly verdict.Waits
