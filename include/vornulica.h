@@ -1,0 +1,217 @@
+/*
+ * Vornulica decides which mapping rule of a skeleton retargeter may be used.
+ *
+ * A session holds what is known about one client rig, in a block of bytes that belongs to the host.
+ * Clients send facts in packets (rig_take). A rule is asked (rig_ask): it applies, is ruled out, or waits.
+ *
+ * What holds for every call:
+ * - It ends with one of the replies below, whatever bytes it is lent. The host checks nothing beforehand.
+ * - A refused call changes no byte of the block or of an output: the host goes on with the same session.
+ * - Where several replies fit, the lowest number is given.
+ * - A buffer is a pointer, then its number of bytes. A null pointer with 0 bytes is an empty buffer.
+ *   No alignment is needed.
+ * - The host keeps buffers separate: none that a call may write overlaps another lent to that call.
+ * - Nothing is allocated, and nothing is kept between calls outside the lent buffers. So calls may run
+ *   side by side, as long as none writes a buffer that another one uses.
+ */
+#ifndef VORNULICA_H
+#define VORNULICA_H
+
+#include <stddef.h>
+#include <stdint.h>
+
+#ifdef __cplusplus
+extern "C" {
+#endif
+
+/* The session block. It has no pointers in it: it may be stored, copied and compared as bytes. */
+#define RIG_BLOCK_SIZE 5250
+
+/* Limits. Kinds are numbered from 0 ("none"), 1 is "any"; joints and links are numbered from 0. */
+#define RIG_MIN_KINDS 2
+#define RIG_MAX_KINDS 64
+#define RIG_MIN_JOINTS 1
+#define RIG_MAX_JOINTS 64
+#define RIG_MIN_RULE_JOINTS 1
+#define RIG_MAX_RULE_JOINTS 32
+#define RIG_MIN_TIES 1
+#define RIG_MAX_TIES 8
+#define RIG_LINKS 16
+#define RIG_MAX_FACTS 1088
+
+/* The house kinds and their meet table, meet(i,j) at i x 33 + j. */
+#define RIG_HOUSE_KINDS 33
+#define RIG_HOUSE_TABLE_SIZE (RIG_HOUSE_KINDS * RIG_HOUSE_KINDS)
+
+/*
+ * A packet:
+ *   bytes 0, 1  L, big-endian, the number of bytes after these two: 4 + 2 x ties + 4 x facts
+ *   byte 2      version, 1
+ *   byte 3      purpose, 1 facts or 2 rule
+ *   byte 4      ties, 0 for facts
+ *   byte 5      joint count, for facts the session's, for a rule that of its own joints
+ *   then ties of two bytes: rule joint, rig joint
+ *   then facts of four bytes:
+ *     1, a, kind, 0   joint a has the kind
+ *     2, a, b, 0      joints a and b are one
+ *     3, a, link, c   the link of joint a leads to joint c
+ * A joint of a fact is a rig joint in facts, and one of the rule's own joints in a rule.
+ */
+
+/* The longest packet of each purpose. A solved form is never longer than the longest packet of facts. */
+#define RIG_MAX_FACTS_SIZE (6 + 4 * RIG_MAX_FACTS)
+#define RIG_MAX_RULE_SIZE (6 + 2 * RIG_MAX_TIES + 4 * RIG_MAX_FACTS)
+
+/*
+ * The number of a reply. All but RIG_DONE are refusals.
+ * Later versions of the library may add numbers: a host treats one that it does not know as a refusal.
+ */
+enum rig_reply {
+    /* Done. Place 0. */
+    RIG_DONE = 0,
+    /* At opening n or v out of range or a table not n x n bytes; a block not 5,250 bytes; a buffer for the
+       house table not 1,089 bytes. Place 0. */
+    RIG_BAD_SIZE = 1,
+    /* A table entry is n or more. Place: the offset of the first such entry. */
+    RIG_NO_KIND = 2,
+    /* A law of kind tables is broken. Place: the offset of the entry read; in a pair or triple i x n + j. */
+    RIG_LAW_BROKEN = 3,
+    /* The block is not well formed; one of zeros, not opened yet, is not. Place 0. */
+    RIG_BAD_BLOCK = 4,
+    /* The packet has under 6 bytes, or not L + 2 bytes. Place 0. */
+    RIG_BAD_LENGTH = 5,
+    /* The packet's version is not 1. Place 2. */
+    RIG_BAD_VERSION = 6,
+    /* Purpose, ties or joint count do not suit the call. Place: 3, 4 or 5, the first that does not. */
+    RIG_BAD_HEADER = 7,
+    /* No number of facts from 0 to 1,088 fits L. Place 0. */
+    RIG_BAD_COUNT = 8,
+    /* A tie or fact with an unknown tag, a number out of range or an unused byte that is not 0.
+       Place: the offset of the first byte of the first such tie or fact. */
+    RIG_BAD_PART = 9,
+    /* A rule joint is not reached: neither tied, nor the end of a link of a reached joint.
+       Place: the number of the smallest such joint. */
+    RIG_NOT_REACHED = 10,
+    /* Clash: no rig satisfies the packet together with the facts already taken. Place 0. */
+    RIG_CLASH = 11,
+    /* The output is shorter than the solved form. Place 0. */
+    RIG_SHORT_OUTPUT = 12
+};
+
+/* The verdict on a rule: the third number of rig_ask when it is done. */
+enum rig_verdict {
+    /* Every rig that satisfies the taken facts satisfies the rule. No later packet changes this. */
+    RIG_APPLIES = 1,
+    /* No rig that satisfies the taken facts satisfies the rule. No later packet changes this. */
+    RIG_RULED_OUT = 2,
+    /* Neither: later packets may decide it. */
+    RIG_WAITS = 3
+};
+
+/* Every call answers with one number: number + 256 x third + 2^32 x place. These split it. */
+
+/* The reply's number, of enum rig_reply. */
+static inline uint8_t rig_number(uint64_t answer)
+{
+    return answer & 0xFF;
+}
+
+/* The third number: what it counts stands at each call. 0 for every refusal. */
+static inline uint32_t rig_third(uint64_t answer)
+{
+    return (answer >> 8) & 0xFFFFFF;
+}
+
+/* Where the reply points to, as told in enum rig_reply. */
+static inline uint32_t rig_place(uint64_t answer)
+{
+    return (uint32_t)(answer >> 32);
+}
+
+/*
+ * Opens a session of v joints, with the meet table of n kinds: meet(i,j) at i x n + j.
+ *
+ * Writes, when done: the whole block. What the block held before does not matter.
+ * Third: 0.
+ * Replies: RIG_DONE
+ *   RIG_BAD_SIZE    n not 2 to 64, v not 1 to 64, table_size not n x n, block_size not 5,250
+ *   RIG_NO_KIND     at the first entry that is n or more
+ *   RIG_LAW_BROKEN  at the entry read: for each i in rising order i x n + i where meet(i,i) is not i,
+ *                   i where meet(0,i) is not 0, n + i where meet(1,i) is not i; then i x n + j for
+ *                   the first pair with meet(i,j) not meet(j,i); then i x n + j for the first triple
+ *                   with meet(meet(i,j),k) not meet(i,meet(j,k))
+ * A refused call changes no byte of the block.
+ */
+uint64_t rig_open(uint64_t n, uint64_t v,
+                  const uint8_t *table, size_t table_size,
+                  uint8_t *block, size_t block_size);
+
+/*
+ * Takes a packet of facts into the session: all of its facts, or none.
+ *
+ * Writes, when done: the block. The order of packets and repeated facts make no difference to its bytes.
+ * Third: the joins, that is the classes of joints known to be one before, less those after; 0 to 63.
+ * Replies: RIG_DONE
+ *   RIG_BAD_SIZE    block_size not 5,250
+ *   RIG_BAD_BLOCK   place 0
+ *   RIG_BAD_LENGTH  place 0
+ *   RIG_BAD_VERSION place 2
+ *   RIG_BAD_HEADER  3 purpose not 1, 4 ties not 0, 5 joint count not the session's
+ *   RIG_BAD_COUNT   place 0
+ *   RIG_BAD_PART    at the first byte of the first such fact
+ *   RIG_CLASH       place 0; a fact of kind 0 always clashes
+ * A refused call changes no byte of the block.
+ */
+uint64_t rig_take(uint8_t *block, size_t block_size,
+                  const uint8_t *packet, size_t packet_size);
+
+/*
+ * Asks a rule of the session.
+ *
+ * Writes nothing.
+ * Third: the verdict, of enum rig_verdict.
+ * Replies: RIG_DONE
+ *   RIG_BAD_SIZE    block_size not 5,250
+ *   RIG_BAD_BLOCK   place 0
+ *   RIG_BAD_LENGTH  place 0
+ *   RIG_BAD_VERSION place 2
+ *   RIG_BAD_HEADER  3 purpose not 2, 4 ties not 1 to 8, 5 joint count not 1 to 32
+ *   RIG_BAD_COUNT   place 0
+ *   RIG_BAD_PART    at the first byte of the first such tie or fact
+ *   RIG_NOT_REACHED the smallest rule joint that is not reached
+ * Changes no byte, done or refused.
+ */
+uint64_t rig_ask(const uint8_t *block, size_t block_size,
+                 const uint8_t *packet, size_t packet_size);
+
+/*
+ * Writes the solved form: a packet of facts that gives a fresh session with the same table and joint
+ * count the same block. RIG_MAX_FACTS_SIZE bytes are always enough.
+ *
+ * Writes, when done: the first bytes of out; the rest of out is unchanged.
+ * Third: the number of bytes written.
+ * Replies: RIG_DONE
+ *   RIG_BAD_SIZE     block_size not 5,250
+ *   RIG_BAD_BLOCK    place 0
+ *   RIG_SHORT_OUTPUT place 0
+ * A refused call changes no byte of out.
+ */
+uint64_t rig_write(const uint8_t *block, size_t block_size,
+                   uint8_t *out, size_t out_size);
+
+/*
+ * Writes the meet table of the house kinds, to open sessions with.
+ *
+ * Writes, when done: the whole table.
+ * Third: 0.
+ * Replies: RIG_DONE
+ *   RIG_BAD_SIZE  table_size not 1,089
+ * A refused call changes no byte of the table.
+ */
+uint64_t rig_house(uint8_t *table, size_t table_size);
+
+#ifdef __cplusplus
+}
+#endif
+
+#endif
