@@ -1,0 +1,219 @@
+// Demand 3 tried directly, without a second implementation to compare with: the
+// order, the splitting and the repeating of facts must not show, decided
+// verdicts stay, a clash stays a clash, and the solved form gives the block back.
+
+#ifndef HOST_DEMAND3_HPP
+#define HOST_DEMAND3_HPP
+
+#include "harness.hpp"
+
+#include <map>
+
+namespace host {
+
+class Demand3 {
+  public:
+    // One round from one seed; gives a description of what fails, or nothing.
+    static std::string failing(const paper::Calls &calls, std::uint64_t seed, size_t &calls_made)
+    {
+        Demand3 round(calls, seed);
+        std::string problem = round.orders();
+        if (problem.empty())
+            problem = round.clashes();
+        if (problem.empty())
+            problem = round.foreign();
+        calls_made += round.made;
+        return problem.empty() ? "" : "demand 3, seed " + std::to_string(seed) + ": " + problem;
+    }
+
+  private:
+    Demand3(const paper::Calls &implementation, std::uint64_t seed)
+        : calls(implementation), random(seed ^ 0x6f7264657273), kinds(random_kinds(random)),
+          v(random_joint_count(random)), hidden(random_picture(kinds, v, random))
+    {
+    }
+
+    Bytes opened()
+    {
+        made++;
+        Bytes block(block_length, 0xee);
+        calls.open(kinds.n, v, kinds.table.data(), kinds.table.size(), block.data(), block.size());
+        return block;
+    }
+    Answer take(Bytes &block, const Bytes &packet)
+    {
+        made++;
+        return {calls.take(block.data(), block.size(), packet.data(), packet.size())};
+    }
+    Answer ask(const Bytes &block, const Bytes &packet)
+    {
+        made++;
+        return {calls.ask(block.data(), block.size(), packet.data(), packet.size())};
+    }
+
+    // The facts in this order, cut into packets of any sizes.
+    std::vector<Bytes> packets(const std::vector<Fact> &facts, size_t most_in_one)
+    {
+        std::vector<Bytes> list;
+        for (size_t from = 0; from < facts.size();) {
+            const size_t to = std::min(facts.size(), from + random.between(1, most_in_one));
+            list.push_back(facts_packet(v, {facts.begin() + static_cast<std::ptrdiff_t>(from),
+                                            facts.begin() + static_cast<std::ptrdiff_t>(to)}));
+            from = to;
+        }
+        return list;
+    }
+    std::vector<Fact> mixed_with_repeats(std::vector<Fact> facts)
+    {
+        for (size_t repeats = random.below(facts.size() + 1); repeats > 0; repeats--)
+            facts.push_back(random.pick(facts));
+        random.shuffle(facts);
+        return facts;
+    }
+    std::vector<Bytes> some_rules(const Bytes &block, size_t count)
+    {
+        std::vector<Bytes> rules;
+        for (size_t i = 0; i < count; i++) {
+            const size_t roll = random.below(100);
+            Rule rule = roll < 35 ? holding_rule(kinds, v, hidden, random)
+                        : roll < 70
+                            ? holding_rule(kinds, v, picture_of_block(kinds, v, block), random)
+                            : any_rule(kinds.n, v, random);
+            if (random.chance(60))
+                unsettle(rule, kinds, v, random);
+            rules.push_back(rule.packet());
+        }
+        return rules;
+    }
+
+    std::string solved_form_gives_it_back(const Bytes &block)
+    {
+        Bytes form(longest_solved_form);
+        made++;
+        const Answer written{calls.write(block.data(), block.size(), form.data(), form.size())};
+        if (written.number() != 0)
+            return "write gave " + written.text();
+        form.resize(written.third());
+        Bytes fresh = opened();
+        const Answer taken = take(fresh, form);
+        if (taken.number() != 0)
+            return "the solved form was answered with " + taken.text();
+        if (fresh != block)
+            return "the solved form taken by a fresh session gave another block";
+        return "";
+    }
+
+    // Satisfiable facts: no order has a packet refused, and all end alike.
+    std::string orders()
+    {
+        std::vector<Fact> facts;
+        for (size_t count = random.between(1, random.chance(20) ? 200 : 30); count > 0; count--)
+            facts.push_back(holding_fact(kinds, v, hidden, random));
+
+        Bytes first;
+        size_t first_joins = 0;
+        std::vector<Bytes> rules;
+        std::vector<std::uint64_t> answers;
+        for (size_t order = 0; order < 4; order++) {
+            const std::vector<Fact> sent =
+                order == 0 ? facts : order == 1 ? facts : mixed_with_repeats(facts);
+            const size_t most_in_one = order == 0 ? facts.size() : order == 1 ? 1 : 8;
+            Bytes block = opened();
+            size_t joins = 0;
+            std::map<size_t, unsigned> decided;
+            for (const Bytes &packet : packets(sent, most_in_one)) {
+                const Answer answer = take(block, packet);
+                if (answer.number() != 0)
+                    return "facts of one picture were answered with " + answer.text();
+                joins += answer.third();
+                if (order != 3)
+                    continue;
+                for (size_t i = 0; i < rules.size(); i++) {
+                    const unsigned verdict = ask(block, rules[i]).third();
+                    if (decided.count(i) != 0 && decided[i] != verdict)
+                        return "a decided verdict changed";
+                    if (verdict == 1 || verdict == 2)
+                        decided[i] = verdict;
+                }
+            }
+            if (order == 0) {
+                first = block;
+                first_joins = joins;
+                rules = some_rules(block, 10);
+                for (const Bytes &rule : rules)
+                    answers.push_back(ask(block, rule).packed);
+                const std::string problem = solved_form_gives_it_back(block);
+                if (!problem.empty())
+                    return problem;
+                continue;
+            }
+            if (block != first)
+                return "the same facts in another order gave another block";
+            if (joins != first_joins)
+                return "the same facts in another order gave another sum of joins";
+            for (size_t i = 0; i < rules.size(); i++)
+                if (ask(block, rules[i]).packed != answers[i])
+                    return "the same facts in another order gave a rule another answer";
+        }
+        return "";
+    }
+
+    // Facts that may contradict each other.
+    std::string clashes()
+    {
+        std::vector<Fact> facts;
+        for (size_t count = random.between(2, 30); count > 0; count--)
+            facts.push_back(random.chance(80) ? holding_fact(kinds, v, hidden, random)
+                                              : any_fact(kinds.n, v, random));
+        Bytes together = opened();
+        const bool satisfiable = take(together, facts_packet(v, facts)).number() == 0;
+
+        Bytes block = opened();
+        std::vector<Bytes> taken, refused;
+        for (const Bytes &packet : packets(mixed_with_repeats(facts), 4)) {
+            const Bytes before = block;
+            const Answer answer = take(block, packet);
+            if (answer.number() != 0 && answer.number() != 11)
+                return "a well-formed packet was answered with " + answer.text();
+            if (answer.number() == 11 && block != before)
+                return "a refused packet changed the block";
+            (answer.number() == 0 ? taken : refused).push_back(packet);
+            const Bytes after = block;
+            for (const Bytes &again : refused)
+                if (take(block, again).number() != 11)
+                    return "a packet that clashed was taken later";
+            if (block != after)
+                return "a packet refused again changed the block";
+        }
+        if (satisfiable != refused.empty())
+            return "facts clash in one packet but not in several, or the other way round";
+        if (satisfiable && block != together)
+            return "facts in one packet gave another block than in several";
+
+        random.shuffle(taken);
+        Bytes again = opened();
+        for (const Bytes &packet : taken)
+            if (take(again, packet).number() != 0)
+                return "packets that were taken clash in another order";
+        if (again != block)
+            return "refused packets left a trace in the block";
+        return solved_form_gives_it_back(block);
+    }
+
+    // A block that somebody else wrote is its solved form and nothing more.
+    std::string foreign()
+    {
+        return solved_form_gives_it_back(foreign_block(kinds, v, random));
+    }
+
+    const paper::Calls &calls;
+    Random random;
+    Kinds kinds;
+    size_t v;
+    Picture hidden;
+    size_t made = 0;
+};
+
+} // namespace host
+
+#endif

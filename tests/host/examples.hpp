@@ -1,0 +1,163 @@
+// The examples of document 01, and its list of errors, with the answers it gives.
+
+#ifndef HOST_EXAMPLES_HPP
+#define HOST_EXAMPLES_HPP
+
+#include "harness.hpp"
+
+namespace host {
+
+class Examples {
+  public:
+    // Gives the names of the examples that come out otherwise; empty if none do.
+    static std::string failing(const paper::Calls &calls)
+    {
+        Examples examples(calls);
+        examples.house_table();
+        examples.facts_and_rules();
+        examples.sizes();
+        examples.errors();
+        return examples.failed;
+    }
+
+  private:
+    explicit Examples(const paper::Calls &implementation) : calls(implementation) {}
+
+    void expect(const char *name, bool holds)
+    {
+        if (!holds)
+            failed += std::string(failed.empty() ? "" : ", ") + name;
+    }
+    static std::uint64_t reply(std::uint64_t number, std::uint64_t place = 0,
+                               std::uint64_t third = 0)
+    {
+        return number + 256 * third + (place << 32);
+    }
+    Bytes house()
+    {
+        Bytes table(house_length, 0xee);
+        expect("house", calls.house(table.data(), table.size()) == reply(0));
+        return table;
+    }
+    Bytes opened(std::uint64_t v)
+    {
+        const Bytes table = house();
+        Bytes block(block_length, 0xee);
+        expect("open", calls.open(33, v, table.data(), table.size(), block.data(),
+                                  block.size()) == reply(0));
+        return block;
+    }
+    std::uint64_t take(Bytes &block, const std::vector<Fact> &facts)
+    {
+        const Bytes packet = facts_packet(block[1], facts);
+        return calls.take(block.data(), block.size(), packet.data(), packet.size());
+    }
+    std::uint64_t ask(const Bytes &block, const Rule &rule)
+    {
+        const Bytes packet = rule.packet();
+        return calls.ask(block.data(), block.size(), packet.data(), packet.size());
+    }
+
+    void house_table()
+    {
+        const Bytes table = house();
+        expect("P1", table[2 * 33 + 9] == 11);
+        expect("P2", table[3 * 33 + 17] == 26);
+        expect("P3", table[11 * 33 + 18] == 0);
+        Bytes short_of_one(house_length - 1, 0xee);
+        expect("house of 1,088 bytes",
+               calls.house(short_of_one.data(), short_of_one.size()) == reply(1) &&
+                   short_of_one == Bytes(house_length - 1, 0xee));
+    }
+
+    const std::vector<Fact> f = {has_kind(0, 9),      has_kind(0, 2),  link_leads(0, 1, 1),
+                                 link_leads(0, 1, 2), has_kind(1, 16), has_kind(2, 2)};
+
+    void facts_and_rules()
+    {
+        Bytes block = opened(4);
+        expect("P4", take(block, f) == reply(0, 0, 1));
+
+        const Bytes solved = {0x00, 0x14, 0x01, 0x01, 0x00, 0x04, 0x01, 0x00, 0x0b, 0x00, 0x03,
+                              0x00, 0x01, 0x01, 0x01, 0x01, 0x17, 0x00, 0x02, 0x02, 0x01, 0x00};
+        Bytes out(30, 0xee);
+        const std::uint64_t written = calls.write(block.data(), block.size(), out.data(), 30);
+        Bytes wanted = solved;
+        wanted.resize(30, 0xee);
+        expect("P5", written == reply(0, 0, 22) && out == wanted);
+        out.assign(21, 0xee);
+        expect("P5 in 21 bytes", calls.write(block.data(), block.size(), out.data(), 21) ==
+                                         reply(12) &&
+                                     out == Bytes(21, 0xee));
+
+        const std::vector<Tie> tied = {{0, 0}};
+        expect("P6", ask(block, {2, tied, {has_kind(0, 9), link_leads(0, 1, 1), has_kind(1, 2)}}) ==
+                         reply(0, 0, 1));
+        expect("P7", ask(block, {2, tied, {has_kind(0, 9), link_leads(0, 1, 1), has_kind(1, 3)}}) ==
+                         reply(0, 0, 2));
+        expect("P8", ask(block, {1, tied, {has_kind(0, 21)}}) == reply(0, 0, 3));
+        expect("P9", ask(block, {2, tied, {link_leads(0, 2, 1)}}) == reply(0, 0, 3));
+        expect("P10", ask(block, {1, {{0, 1}, {0, 2}}, {}}) == reply(0, 0, 1));
+        expect("P11", ask(block, {1, {{0, 1}, {0, 3}}, {}}) == reply(0, 0, 3));
+        const Bytes before = block;
+        expect("P12", take(block, {has_kind(2, 3)}) == reply(11) && block == before);
+        expect("a joint not reached", ask(block, {2, tied, {}}) == reply(10, 1));
+        expect("a packet of no facts", take(block, {}) == reply(0) && block == before);
+    }
+
+    void sizes()
+    {
+        for (const std::uint64_t n : {1, 2, 64, 65}) {
+            Random random(n);
+            const Bytes table = n == 1    ? Bytes(1, 0)
+                                : n == 65 ? Bytes(65 * 65, 0)
+                                          : chain_kinds(static_cast<size_t>(n), random).table;
+            Bytes block(block_length, 0xee);
+            const std::uint64_t answer = calls.open(n, 4, table.data(), table.size(),
+                                                    block.data(), block.size());
+            expect("n of 1, 2, 64 and 65", answer == reply(n == 1 || n == 65 ? 1 : 0));
+        }
+        Bytes block = opened(64);
+        const Bytes before = block;
+        std::vector<Fact> facts(most_facts, is_one_with(62, 63));
+        facts.push_back(is_one_with(62, 63));
+        expect("1,089 facts", take(block, facts) == reply(8) && block == before);
+        facts.pop_back();
+        expect("1,088 facts", take(block, facts) == reply(0, 0, 1));
+    }
+
+    void errors()
+    {
+        // In each order, for only some of them have the join run on through links.
+        std::vector<Fact> facts = {link_leads(0, 1, 1), link_leads(0, 1, 2), link_leads(1, 2, 3),
+                                   link_leads(2, 2, 4)};
+        std::sort(facts.begin(), facts.end());
+        do {
+            Bytes block = opened(5);
+            take(block, {facts[0], facts[1], facts[2]});
+            take(block, {facts[3]});
+            expect("error 1", block[classes_at + 2] == 1 && block[classes_at + 4] == 3);
+        } while (std::next_permutation(facts.begin(), facts.end()));
+
+        Bytes block = opened(4);
+        take(block, f);
+        expect("error 3", ask(block, {1, {{0, 1}}, {has_kind(0, 16)}}) == reply(0, 0, 1));
+
+        block = opened(4);
+        const Bytes before = block;
+        expect("error 4", take(block, {has_kind(0, 11), is_one_with(1, 2), has_kind(0, 18)}) ==
+                                  reply(11) &&
+                              block == before);
+
+        take(block, {is_one_with(3, 1), is_one_with(1, 2)});
+        expect("error 5", block[classes_at + 1] == 1 && block[classes_at + 2] == 1 &&
+                              block[classes_at + 3] == 1);
+    }
+
+    const paper::Calls &calls;
+    std::string failed;
+};
+
+} // namespace host
+
+#endif

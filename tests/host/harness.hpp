@@ -1,0 +1,264 @@
+// Running one call of one implementation on lent memory, and comparing what two
+// of them did: the number given and every byte of every buffer lent.
+
+#ifndef HOST_HARNESS_HPP
+#define HOST_HARNESS_HPP
+
+#include "generate.hpp"
+
+#include <cstdio>
+#include <cstdlib>
+#include <cstring>
+#include <string>
+
+#include <sys/mman.h>
+
+#if defined(__SANITIZE_ADDRESS__)
+#include <sanitizer/asan_interface.h>
+#endif
+
+namespace host {
+
+struct Answer {
+    std::uint64_t packed = 0;
+
+    unsigned number() const { return static_cast<unsigned>(packed & 0xff); }
+    unsigned third() const { return static_cast<unsigned>(packed >> 8 & 0xffffff); }
+    unsigned place() const { return static_cast<unsigned>(packed >> 32); }
+    std::string text() const
+    {
+        return "number " + std::to_string(number()) + ", place " + std::to_string(place()) +
+               ", third " + std::to_string(third());
+    }
+};
+
+// Room for one buffer, with a page on either side that may not be touched.
+class LentMemory {
+  public:
+    LentMemory()
+    {
+        void *all = mmap(nullptr, page + room + page, PROT_NONE, MAP_PRIVATE | MAP_ANONYMOUS, -1, 0);
+        if (all == MAP_FAILED) {
+            std::perror("mmap");
+            std::exit(2);
+        }
+        start = static_cast<Byte *>(all) + page;
+        if (mprotect(start, room, PROT_READ | PROT_WRITE) != 0) {
+            std::perror("mprotect");
+            std::exit(2);
+        }
+    }
+    ~LentMemory() { munmap(start - page, page + room + page); }
+    LentMemory(const LentMemory &) = delete;
+    LentMemory &operator=(const LentMemory &) = delete;
+
+    Byte *lend(const Lent &lent)
+    {
+        size = lent.bytes.size();
+        if (size + 2 * guard + 16 > room) {
+            std::fprintf(stderr, "a buffer of %zu bytes does not fit the lent memory\n", size);
+            std::exit(2);
+        }
+        at = lent.lie == Lie::at_start ? start
+             : lent.lie == Lie::at_end ? start + room - size
+                                       : start + guard + lent.shift;
+        guard_before = lent.lie == Lie::at_start ? 0 : guard;
+        guard_after = lent.lie == Lie::at_end ? 0 : guard;
+        if (size > 0)
+            std::memcpy(at, lent.bytes.data(), size);
+        for (size_t i = 1; i <= guard_before; i++)
+            *(at - i) = guard_byte(i);
+        for (size_t i = 0; i < guard_after; i++)
+            at[size + i] = guard_byte(i);
+        guard_by_sanitizer(true);
+        return lent.null ? nullptr : at;
+    }
+    void give_back() { guard_by_sanitizer(false); }
+
+    bool guards_stand() const
+    {
+        for (size_t i = 1; i <= guard_before; i++)
+            if (*(at - i) != guard_byte(i))
+                return false;
+        for (size_t i = 0; i < guard_after; i++)
+            if (at[size + i] != guard_byte(i))
+                return false;
+        return true;
+    }
+    const Byte *bytes() const { return at; }
+    size_t length() const { return size; }
+
+  private:
+    static constexpr size_t page = 65536; // whole pages for any usual page size
+    static constexpr size_t room = 2 * 65536;
+    static constexpr size_t guard = 48;
+
+    static Byte guard_byte(size_t i) { return static_cast<Byte>(0xc5 ^ 7 * i); }
+
+    // The sanitizer sees what the instrumented test side reads; the bytes show
+    // what anyone writes.
+    void guard_by_sanitizer([[maybe_unused]] bool on)
+    {
+#if defined(__SANITIZE_ADDRESS__)
+        if (on) {
+            __asan_poison_memory_region(at - guard_before, guard_before);
+            __asan_poison_memory_region(at + size, guard_after);
+        } else {
+            __asan_unpoison_memory_region(start, room);
+        }
+#endif
+    }
+
+    Byte *start = nullptr;
+    Byte *at = nullptr;
+    size_t size = 0;
+    size_t guard_before = 0;
+    size_t guard_after = 0;
+};
+
+class Side {
+  public:
+    explicit Side(const paper::Calls &implementation) : calls(&implementation) {}
+
+    void use(const paper::Calls &implementation) { calls = &implementation; }
+
+    // Lending and calling are two steps, so that a test can call from a thread
+    // with a small stack.
+    void lend(const Call &call)
+    {
+        for (size_t slot = 0; slot < slot_count; slot++)
+            if (call.lent[slot].used) {
+                pointer[slot] = memory[slot].lend(call.lent[slot]);
+                length[slot] = call.lent[slot].bytes.size();
+            }
+    }
+    void run(const Call &call)
+    {
+        switch (call.name) {
+        case Name::open:
+            answer.packed = calls->open(call.n, call.v, pointer[table_slot], length[table_slot],
+                                        pointer[block_slot], length[block_slot]);
+            break;
+        case Name::take:
+            answer.packed = calls->take(pointer[block_slot], length[block_slot],
+                                        pointer[packet_slot], length[packet_slot]);
+            break;
+        case Name::ask:
+            answer.packed = calls->ask(pointer[block_slot], length[block_slot],
+                                       pointer[packet_slot], length[packet_slot]);
+            break;
+        case Name::write:
+            answer.packed = calls->write(pointer[block_slot], length[block_slot],
+                                         pointer[out_slot], length[out_slot]);
+            break;
+        case Name::house:
+            answer.packed = calls->house(pointer[table_slot], length[table_slot]);
+            break;
+        }
+    }
+    void give_back(const Call &call)
+    {
+        for (size_t slot = 0; slot < slot_count; slot++)
+            if (call.lent[slot].used)
+                memory[slot].give_back();
+    }
+    const Answer &made(const Call &call)
+    {
+        lend(call);
+        run(call);
+        give_back(call);
+        return answer;
+    }
+
+    Answer answer;
+    std::array<LentMemory, slot_count> memory;
+
+  private:
+    const paper::Calls *calls;
+    std::array<Byte *, slot_count> pointer{};
+    std::array<size_t, slot_count> length{};
+};
+
+inline std::string hex(const Byte *bytes, size_t from, size_t to)
+{
+    std::string text;
+    char two[4];
+    for (size_t i = from; i < to; i++) {
+        std::snprintf(two, sizeof two, "%02x", bytes[i]);
+        text += (i == from ? "" : " ") + std::string(two);
+    }
+    return text;
+}
+
+// What the two sides did differently in one call; empty if nothing.
+inline std::string difference(const Call &call, const Side &tried, const Side &expected)
+{
+    std::string text;
+    if (tried.answer.packed != expected.answer.packed)
+        text += "  gave      " + tried.answer.text() + "\n  expected  " + expected.answer.text() +
+                "\n";
+    for (size_t slot = 0; slot < slot_count; slot++) {
+        if (!call.lent[slot].used)
+            continue;
+        const LentMemory &one = tried.memory[slot];
+        const LentMemory &other = expected.memory[slot];
+        if (!one.guards_stand())
+            text += std::string("  wrote outside the ") + slot_text[slot] + "\n";
+        if (!other.guards_stand())
+            text += std::string("  the plain version wrote outside the ") + slot_text[slot] + "\n";
+        if (one.length() == 0 || std::memcmp(one.bytes(), other.bytes(), one.length()) == 0)
+            continue;
+        size_t at = 0;
+        while (one.bytes()[at] == other.bytes()[at])
+            at++;
+        const size_t to = std::min(at + 24, one.length());
+        text += std::string("  ") + slot_text[slot] + " differs from offset " +
+                std::to_string(at) + "\n    has       " + hex(one.bytes(), at, to) +
+                "\n    expected  " + hex(other.bytes(), at, to) + "\n";
+    }
+    return text;
+}
+
+// The call itself, short enough to read: all of a small packet, the start of a
+// large one, and of a block what it holds about the first joints.
+inline std::string description(const Call &call)
+{
+    std::string text = std::string("  call ") + name_text[static_cast<size_t>(call.name)];
+    if (call.name == Name::open)
+        text += ", n " + std::to_string(call.n) + ", V " + std::to_string(call.v);
+    text += "\n";
+    for (size_t slot = 0; slot < slot_count; slot++) {
+        const Lent &lent = call.lent[slot];
+        if (!lent.used)
+            continue;
+        text += std::string("  ") + slot_text[slot] + ", " + std::to_string(lent.bytes.size()) +
+                " bytes" + (lent.null ? ", null" : "") +
+                (lent.lie == Lie::at_start ? ", at the start of its memory"
+                 : lent.lie == Lie::at_end ? ", at the end of its memory"
+                                           : "") +
+                "\n";
+        if (slot == packet_slot || slot == table_slot) {
+            const size_t shown = std::min<size_t>(lent.bytes.size(), 128);
+            for (size_t at = 0; at < shown; at += 32)
+                text += "    " + hex(lent.bytes.data(), at, std::min(at + 32, shown)) + "\n";
+            if (shown < lent.bytes.size())
+                text += "    ...\n";
+        }
+        if (slot == block_slot && call.name != Name::open && lent.bytes.size() == block_length) {
+            const Byte *block = lent.bytes.data();
+            const size_t joints = std::min<size_t>(block[1], 16);
+            text += "    n " + std::to_string(block[0]) + ", V " + std::to_string(block[1]) +
+                    "\n    classes " + hex(block, classes_at, classes_at + joints) +
+                    "\n    kinds   " + hex(block, kinds_at, kinds_at + joints) + "\n";
+            for (size_t joint = 0; joint < std::min<size_t>(joints, 8); joint++) {
+                const size_t row = links_at + joint * links_per_joint;
+                text += "    links   " + hex(block, row, row + links_per_joint) + "\n";
+            }
+        }
+    }
+    return text;
+}
+
+} // namespace host
+
+#endif
