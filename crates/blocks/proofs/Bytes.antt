@@ -15,8 +15,8 @@ use Rattle.kinds.specs.Kinds.{Lawful, meetAt}
 use Rattle.tables.specs.Check.{tableReply}
 use Rattle.meaning.specs.declared.RigJoint.{RigJoint}
 use Rattle.meaning.specs.Picture.{Picture, Fact, rename, SameMeaning, Every}
-use Rattle.meaning.specs.Form.{listForm, Form, unknown, Smallest, Well, linksFrom, factsAt, factsFrom, rigJoint, takenFacts}
-use Rattle.meaning.specs.Solving.{Models, classes}
+use Rattle.meaning.specs.Form.{listForm, Form, unknown, Smallest, Well, linksFrom, factsAt, factsFrom, rigJoint, takenFacts, classes}
+use Rattle.meaning.specs.Solving.{Models}
 use Rattle.meaning.proofs.Unique.{SameForm, same-meaning, one-form}
 use Rattle.blocks.specs.Layout.{blockSize, kindsOf, jointsOf, classesOf, jointKindsOf, rowsOf, tableOf, blockForm, withForm}
 use Rattle.blocks.proofs.Shape.{WellBlock, Ends, block-ends, some-joint, two-kinds, block-lawful}

@@ -16,8 +16,7 @@ use Rattle.kinds.proofs.Offset.{square-le}
 use Rattle.replies.specs.declared.Reply.the-variants.{Done}
 use Rattle.tables.specs.Check.{Sized, tableReply}
 use Rattle.meaning.specs.Picture.{rename}
-use Rattle.meaning.specs.Form.{Form, unknown, Smallest, Well, linksFrom, factsAt, factsFrom, rigJoint, takenFacts}
-use Rattle.meaning.specs.Solving.{classes}
+use Rattle.meaning.specs.Form.{Form, unknown, Smallest, Well, linksFrom, factsAt, factsFrom, rigJoint, takenFacts, classes}
 use Rattle.blocks.specs.Layout.{blockForm, tabulate, freshBlock}
 use Rattle.blocks.proofs.Shape.{WellBlock, block-ends}
 use Rattle.blocks.proofs.Bytes.{Joined, joined, Opened, byte-from}

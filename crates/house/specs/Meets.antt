@@ -1,4 +1,5 @@
--- The house meet table: row i holds meet(i,0) to meet(i,32).
+-- The house meet table: row i holds meet(i,0) to meet(i,32). Each entry is the greatest kind under both by the parents: `house-rule` in
+-- proofs/Rule.antt.
 -- Assumes nothing.
 use mathlib.Core.List.{List, [], _∷_}
 use Prim.Native.Nat.{ℕ}

@@ -1,4 +1,4 @@
--- The house kinds with their direct parents, when one kind is under another by them, and the greatest kind under both of two.
+-- The house kinds with their direct parents, and when one kind is under another by them.
 -- Assumes nothing.
 use mathlib.Core.List.{List, [], _∷_, List·Memᴰ}
 use Prim.Native.Nat.{ℕ, _<_}

@@ -22,7 +22,7 @@ pub record Lawful (n : ℕ) (meet : ℕ → ℕ → ℕ) : Type 0 where
   pub swap : (i j : ℕ) → i < n → j < n → meet i j ≡ meet j i
   pub group : (i j k : ℕ) → i < n → j < n → k < n → meet (meet i j) k ≡ meet i (meet j k)
 
--- m is the greatest of the kinds below n that are under both i and j, by an order R
+-- m is the greatest of the kinds 0 to n - 1 that are under both i and j, by an order R
 pub record Greatest (n : ℕ) (R : ℕ → ℕ → Type 0) (i j m : ℕ) : Type 0 where
   pub kind : m < n
   pub left : R m i

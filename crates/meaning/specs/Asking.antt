@@ -1,5 +1,5 @@
 -- Asking in the words of forms: a rule's joints are nodes behind the rig's v joints, and its ties and facts are taken there.
--- These stand between the contract of asking and the solver; no contract of a session cites them.
+-- These stand between the contract of asking and the solver's code; no exported contract rests on them.
 -- Assumes nothing.
 use mathlib.Core.Path.{_≡_}
 use mathlib.Core.List.{List, [], _∷_, _++_, map}

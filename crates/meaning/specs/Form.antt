@@ -65,6 +65,11 @@ factsFrom S j (suc count) = factsAt S j ++ factsFrom S (suc j) count
 abbrev pub factsOf : ℕ → Form → List (Fact ℕ)
 factsOf v S = factsFrom S 0 v
 
+-- how many of the joints below k are their class's smallest
+unfoldable pub classes : Form → ℕ → ℕ
+classes S zero = 0
+classes S (suc k) = cond (eqb (S .class k) k) (suc (classes S k)) (classes S k)
+
 abbrev pub rigJoint : ℕ → RigJoint
 rigJoint j = record { 0 = j }
 

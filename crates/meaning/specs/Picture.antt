@@ -35,7 +35,7 @@ pub data Fact (J : Type 0) : Type 0 where
   leads : J → ℕ → J → Fact J
 
 module _ {n : ℕ} {J : Type 0} (meet : ℕ → ℕ → ℕ) (P : Picture n) (σ : J → ℕ) where
-  -- The placing gives c an element, so that the last clause says that the link is defined, too.
+  -- Asked together with a placing, which gives c an element: so the last clause says that the link is defined, too.
   abbrev pub Holds : Fact J → Type 0
   Holds (has-kind a s) = Under meet (P .kind (σ a)) s
   Holds (same a b) = σ a ≡ σ b

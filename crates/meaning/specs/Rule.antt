@@ -44,7 +44,8 @@ module _ {n : ℕ} (meet : ℕ → ℕ → ℕ) (Counts : Picture n → Type 0) 
   abbrev pub RuledOut : Type 0
   RuledOut = (P : Picture n) (σ : RigJoint → ℕ) → Counts P → Placing P σ → All meet P σ taken → Found meet P σ r → ⊥
 
-  -- what each verdict says; a rule that neither applies nor is ruled out waits
+  -- what each verdict says; a rule that neither applies nor is ruled out waits. None both applies and is ruled out where the taken facts
+  -- have a picture, as those of a well-formed block do.
   abbrev pub Judged : Verdict → Type 0
   Judged verdict.Applies = Applies
   Judged verdict.RuledOut = RuledOut

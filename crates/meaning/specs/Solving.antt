@@ -1,17 +1,14 @@
--- What the solver's steps do, in the words of forms. No call of a session cites these: they stand between its contracts and the solver's code.
+-- What the solver's steps do, in the words of forms. These stand between the contracts of the calls and the solver's code; no exported
+-- contract rests on them.
 -- Assumes nothing.
 use mathlib.Core.Path.{_≡_}
 use mathlib.Core.Logic.{_≢_, _↔_}
-use mathlib.Core.Bool.{cond}
-use mathlib.Core.List.{List, [], _∷_, _++_, map}
-use Prim.Native.Nat.{ℕ, zero, suc, _+_, _*_, _<_, _≤_}
-use lib.ListN.{getD}
-use lib.Dec.{eqb}
+use mathlib.Core.List.{List, [], _∷_}
+use Prim.Native.Nat.{ℕ, _<_}
 use Rattle.kinds.specs.Kinds.{Under}
 use Rattle.meaning.specs.declared.RigJoint.{RigJoint}
-use Rattle.meaning.specs.Picture.{Picture, Placing, Fact, All, rename}
+use Rattle.meaning.specs.Picture.{Picture, Placing, Fact, All}
 use Rattle.meaning.specs.Picture.Fact.{has-kind, same, leads}
-use Rattle.meaning.specs.Rule.{Rule}
 use Rattle.meaning.specs.Form.{Form, unknown, Smallest, Well}
 
 -- the node of a rig joint
@@ -42,8 +39,3 @@ pub record Taken (n : ℕ) (meet : ℕ → ℕ → ℕ) (v : ℕ) (S : Form) (fs
 -- no picture satisfies S and the facts
 abbrev pub Refuted : (n : ℕ) → (ℕ → ℕ → ℕ) → ℕ → Form → List (Fact ℕ) → Type 0
 Refuted n meet v S fs = (P : Picture n) (σ : ℕ → ℕ) → Placing P σ → Models meet v S P σ → All meet P σ fs → ⊥
-
--- how many of the joints below k are their class's smallest
-unfoldable pub classes : Form → ℕ → ℕ
-classes S zero = 0
-classes S (suc k) = cond (eqb (S .class k) k) (suc (classes S k)) (classes S k)

@@ -29,12 +29,12 @@ unfoldable pub each : {A : Type 0} → (ℕ → A) → ℕ → ℕ → List A
 each f i zero = []
 each f i (suc count) = f i ∷ each f (suc i) count
 
-abbrev pub factsOf : {J : Type 0} → (ℕ → J) → List ℕ → List (Fact J)
-factsOf joint p = each (λ i. factOf joint p (factAt p i)) 0 (factCount p)
+abbrev pub packetFacts : {J : Type 0} → (ℕ → J) → List ℕ → List (Fact J)
+packetFacts joint p = each (λ i. factOf joint p (factAt p i)) 0 (factCount p)
 
 -- the facts of a packet for taking
 abbrev pub rigFacts : List ℕ → List (Fact RigJoint)
-rigFacts p = factsOf rigJoint p
+rigFacts p = packetFacts rigJoint p
 
 -- a tie: rule joint, rig joint
 abbrev pub tieOf : List ℕ → ℕ → Tie
@@ -42,7 +42,7 @@ tieOf p at = record { rule = ruleJoint (byte p at); rig = rigJoint (byte p (at +
 
 -- the rule of a packet for asking
 abbrev pub ruleOf : List ℕ → Rule
-ruleOf p = record { joints = joints p; ties = each (λ i. tieOf p (tieAt i)) 0 (ties p); facts = factsOf ruleJoint p }
+ruleOf p = record { joints = joints p; ties = each (λ i. tieOf p (tieAt i)) 0 (ties p); facts = packetFacts ruleJoint p }
 
 -- the facts that the code's own enums stand for
 abbrev pub rigFact : RigFact → Fact RigJoint

@@ -18,8 +18,7 @@ use Rattle.house.proofs.Tests.{and-left, and-right, or-cases, allBelow, below}
 use Rattle.meaning.specs.declared.RigJoint.{RigJoint}
 use Rattle.meaning.specs.Picture.{Fact}
 use Rattle.meaning.specs.Picture.Fact.{has-kind, same, leads}
-use Rattle.meaning.specs.Form.{Form, listForm, unknown, Smallest, Well, linksFrom, factsAt, factsFrom, rigJoint, takenFacts}
-use Rattle.meaning.specs.Solving.{classes}
+use Rattle.meaning.specs.Form.{Form, listForm, unknown, Smallest, Well, linksFrom, factsAt, factsFrom, rigJoint, takenFacts, classes}
 use Rattle.meaning.proofs.Unique.{SameForm}
 use Rattle.blocks.specs.Layout.{blockForm, withForm}
 use Rattle.blocks.proofs.Bytes.{Opened, with-opened, packed-form, packed-well, form-facts, form-classes}

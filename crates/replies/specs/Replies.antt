@@ -59,6 +59,6 @@ packed r = number r + 256 * third r + 2 ^ 32 * place r
 abbrev pub refuses : Reply → Bool
 refuses r = not (eqb (number r) 0)
 
--- the first of two, where it is a refusal: the lowest number wins
+-- the first of two where it refuses, else the second: the lowest number wins where the lower comes first
 abbrev pub orElse : Reply → Reply → Reply
 orElse a b = cond (refuses a) a b

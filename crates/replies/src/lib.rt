@@ -14,7 +14,7 @@ pub enum Reply {
     LawBroken(u32),
     // 4: the block is not well formed.
     BadBlock,
-    // 5: the packet's length is not the one that it states.
+    // 5: the packet has under six bytes, or not as many as it states.
     BadLength,
     // 6: the packet's version is not 1.
     BadVersion,
@@ -22,11 +22,11 @@ pub enum Reply {
     BadHeader(u32),
     // 8: no number of facts fits the length.
     BadCount,
-    // 9: a tie or a fact that is none, at its first byte.
+    // 9: a tie or a fact with an unknown tag, a number out of range or an unused byte not 0, at its first byte.
     BadPart(u32),
     // 10: the smallest rule joint that is not reached.
     NotReached(u32),
-    // 11: no picture satisfies the facts.
+    // 11: no picture satisfies the taken facts and the packet's together.
     Clash,
     // 12: the output is shorter than the solved form.
     ShortOutput,

@@ -1,13 +1,21 @@
 // Reads V as one byte, then packets, from standard input, and writes one line a call: a word, then number, place and third.
 // The kinds are the house kinds.
 ghost use mathlib.Core.Path.{_≡_};
-ghost use Prim.Native.Nat.{_+_, _*_, _<_};
-ghost use lib.ListN.{length, getD};
-ghost use Rattle.rigcheck.specs.Answers.{isFacts, Answer};
+ghost use Prim.Native.Nat.{_<_};
+ghost use Rattle.rigcheck.specs.Answers.{isFacts, Answer, stepOf};
 use replies::Reply;
 
-// The largest L of a packet: 4 + 2 × 8 ties + 4 × 1,088 facts.
-const LONGEST: usize = 4372;
+// How a run goes on from the two bytes of L.
+enum Step {
+    // No packet is left.
+    End,
+    // The input ends inside a packet.
+    Cut,
+    // L is too long.
+    Long,
+    // As many bytes more make the packet.
+    Packet(usize),
+}
 
 fn wide(x: u8) -> usize
     ensures { λ r. ⌜ (r ≡ x) × (r < 256) ⌝ }
@@ -15,11 +23,21 @@ fn wide(x: u8) -> usize
     x as usize
 }
 
-// L, from the two bytes that state it.
-fn stated_length(head: [u8; 2]) -> usize
-    ensures { λ r. ⌜ r ≡ 256 * getD head 0 0 + getD head 1 0 ⌝ }
+// L is judged as soon as its two bytes are read.
+fn next_step(got: usize, head: [u8; 2]) -> Step
+    ensures { λ r. ⌜ r ≡ stepOf got head ⌝ }
 {
-    256 * wide(head[0]) + wide(head[1])
+    if got == 0 {
+        return Step::End;
+    }
+    if got < 2 {
+        return Step::Cut;
+    }
+    let size = 256 * wide(head[0]) + wide(head[1]);
+    if 4372 < size {
+        return Step::Long;
+    }
+    Step::Packet(size)
 }
 
 // Whether the packet is for taking; any other is for asking.
@@ -102,19 +120,19 @@ fn rest_of_packet(block: &mut [u8], head: [u8; 2], size: usize) -> bool
 fn next_packet(block: &mut [u8]) -> bool {
     let mut head = [0u8; 2];
     let got = io::read_full(0, &mut head);
-    if got == 0 {
-        return false;
+    let step = next_step(got, head);
+    match step {
+        Step::End => false,
+        Step::Cut => {
+            write_line(b"cut", 5, 0, 0);
+            false
+        }
+        Step::Long => {
+            write_line(b"long", 5, 0, 0);
+            false
+        }
+        Step::Packet(size) => rest_of_packet(block, head, size),
     }
-    if got < 2 {
-        write_line(b"cut", 5, 0, 0);
-        return false;
-    }
-    let size = stated_length(head);
-    if LONGEST < size {
-        write_line(b"long", 5, 0, 0);
-        return false;
-    }
-    rest_of_packet(block, head, size)
 }
 
 // Every packet of the input; no input is so long that the count runs out.

@@ -14,8 +14,8 @@ use borrow.Author.Tests.{eq-eqb, ne-eqb}
 use Rattle.kinds.specs.Kinds.{Lawful, meetAt}
 use Rattle.meaning.specs.declared.RigJoint.{RigJoint}
 use Rattle.meaning.specs.Picture.{Picture, Placing, Fact, SameMeaning, Every, rename, Clash}
-use Rattle.meaning.specs.Form.{Form, listForm, Smallest, Well, takenFacts}
-use Rattle.meaning.specs.Solving.{rigNumber, Models, Taken, Refuted, classes}
+use Rattle.meaning.specs.Form.{Form, listForm, Smallest, Well, takenFacts, classes}
+use Rattle.meaning.specs.Solving.{rigNumber, Models, Taken, Refuted}
 use Rattle.meaning.specs.Asking.{Extends}
 use Rattle.meaning.proofs.Canon.{canon, canon-placing, canon-models}
 use Rattle.meaning.proofs.Takes.{taken-means, refuted-clash}

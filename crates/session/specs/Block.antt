@@ -10,8 +10,7 @@ use Rattle.replies.specs.declared.Reply.the-variants.{Done, BadSize, BadBlock}
 use Rattle.kinds.specs.Kinds.{meetAt}
 use Rattle.meaning.specs.declared.RigJoint.{RigJoint}
 use Rattle.meaning.specs.Picture.{Fact}
-use Rattle.meaning.specs.Form.{takenFacts}
-use Rattle.meaning.specs.Solving.{classes}
+use Rattle.meaning.specs.Form.{takenFacts, classes}
 use Rattle.blocks.specs.Layout.{blockSize, kindsOf, jointsOf, tableOf, blockForm}
 use Rattle.blocks.specs.WellFormed.{wellFormed}
 

@@ -21,7 +21,7 @@ unfoldable pub takeRefusal : List ℕ → List ℕ → Reply
 takeRefusal b p = orElse (blockReply b) (packetReply (factsWanted (jointsOf b)) (kindsOf b) (jointsOf b) p)
 
 -- `after` is the block after taking the facts: well formed, with the same n, V and table, and its solved form is satisfied by exactly the
--- pictures and placings that satisfy both the taken facts and these
+-- pictures and placings that satisfy both the taken facts and these. This fixes every byte: `after-one` in proofs/OneTake.antt.
 pub record After (b : List ℕ) (facts : List (Fact RigJoint)) (after : List ℕ) : Type 0 where
   pub size : length after ≡ blockSize
   pub well : wellFormed after ≡ true
@@ -35,5 +35,5 @@ pub data Take (b p : List ℕ) (reply : Reply) (after : List ℕ) : Type 0 where
   refused : refuses (takeRefusal b p) ≡ true → reply ≡ takeRefusal b p → after ≡ b → Take b p reply after
   -- no picture and placing satisfy the taken facts and the packet's together
   clashes : takeRefusal b p ≡ Done 0 → NoPicture {n = kindsOf b} (meetOf b) Every (taken b ++ rigFacts p) → reply ≡ Clash → after ≡ b → Take b p reply after
-  -- third is the joins: classes before less classes after
+  -- some picture satisfies them, the block's own; third is the joins: classes before less classes after
   done : takeRefusal b p ≡ Done 0 → After b (rigFacts p) after → reply ≡ Done (classCount b - classCount after) → Take b p reply after

@@ -8,13 +8,13 @@ use Rattle.replies.specs.Replies.{packed}
 use Rattle.session.specs.Take.{Take}
 use Rattle.session.specs.Ask.{Ask}
 
--- the number is that of a reply that taking the packet may give, with this block afterwards
+-- the number of the reply to taking the packet, with this block afterwards
 pub record TakeNumber (b p : List ℕ) (number : ℕ) (after : List ℕ) : Type 0 where
   pub reply : Reply
   pub takes : Take b p reply after
   pub told : number ≡ packed reply
 
--- the number is that of a reply that asking the packet may give
+-- the number of the reply to asking the packet
 pub record AskNumber (b p : List ℕ) (number : ℕ) : Type 0 where
   pub reply : Reply
   pub asks : Ask b p reply

@@ -1,4 +1,5 @@
 // The library for a C or C++ host: every call on byte slices, its answer packed into one number. Nothing is asked of what the host lends.
+// What is lent by `&` cannot be written; the contracts say what becomes of what is lent by `&mut`.
 ghost use mathlib.Core.Path.{_≡_};
 ghost use Rattle.replies.specs.Replies.{packed};
 ghost use Rattle.session.specs.Open.{openReply, openBlock};

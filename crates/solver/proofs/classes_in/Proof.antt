@@ -2,7 +2,7 @@
 -- Assumes nothing.
 use mathlib.Core.Path.{_≡_, sym}
 use Prim.Native.Nat.{_-_, _≤_}
-use Rattle.meaning.specs.Solving.{classes}
+use Rattle.meaning.specs.Form.{classes}
 use Rattle.solver.specs.Unpacked.{formOf}
 use Rattle.solver.proofs.Run.{classes-none, classes-more, classes-le}
 use borrow.Author.Needs.{needs}

@@ -1,7 +1,8 @@
 -- `session::take/solve` meets its contract: the answer of the solver, on the block's own form and table.
 -- Assumes nothing.
 use Rattle.meaning.specs.Picture.{rename}
-use Rattle.meaning.specs.Solving.{rigNumber, classes}
+use Rattle.meaning.specs.Form.{classes}
+use Rattle.meaning.specs.Solving.{rigNumber}
 use Rattle.packets.specs.Facts.{rigFacts}
 use Rattle.session.specs.Block.{meetOf}
 use Rattle.solver.proofs.Run.{classes-le}

@@ -7,7 +7,7 @@ use lib.ListN.{length}
 use borrow.Author.Tests.{not-true, not-false}
 use Rattle.kinds.specs.Kinds.{meetAt}
 use Rattle.meaning.specs.Picture.Fact.{same}
-use Rattle.meaning.specs.Solving.{classes}
+use Rattle.meaning.specs.Form.{classes}
 use Rattle.solver.specs.Unpacked.{formOf}
 use Rattle.solver.specs.Steps.{Running}
 use Rattle.solver.proofs.Run.{run-start, run-done, last-nodes, last-room, run-skip, run-ready, run-clash, run-join, run-falls}
