@@ -5,6 +5,7 @@ pub mod Demand1
 pub mod Demand2
 pub mod Demand3
 pub mod OneResult
+pub mod OneForm
 pub mod SolvedForm
 pub mod ExampleBlock
 pub mod ExampleTake
