@@ -158,18 +158,18 @@ module _ {b : List ℕ} (g : GoodBlock b) where
 
 -- the solver's answer with its count of classes, as the outcome of the packet p
 module _ {b p : List ℕ} (g : GoodBlock b) (start form : Solved) (x : Extends (jointsOf b) 0 (blockForm b) (formOf start)) where
-  pub clash-outcome : (joins : ℕ) → Refuted (kindsOf b) (meetOf b) (jointsOf b) (formOf start) (map (rename rigNumber) (rigFacts p)) → Solves b p false joins form
+  pub clash-outcome : (joins : ℕ) → Refuted (kindsOf b) (meetOf b) (jointsOf b) (formOf start) (map (rename rigNumber) (rigFacts p)) → Solves b p true joins form
   clash-outcome joins r =
-      record { clash = λ _. refuted-answer g x (rigFacts p) r; after = λ e. absurd (false≢true e); count = λ e. absurd (false≢true e) }
+      record { no-picture = λ _. refuted-answer g x (rigFacts p) r; after = λ e. absurd (true≢false e); count = λ e. absurd (true≢false e) }
 
   pub done-outcome :
       length (form .class) ≡ 96 → length (form .kind) ≡ 96 → length (form .link) ≡ 1536
       → Taken (kindsOf b) (meetOf b) (jointsOf b) (formOf start) (map (rename rigNumber) (rigFacts p)) (formOf form)
       → (before after : ℕ) → before ≡ classes (formOf start) (jointsOf b) → after ≡ classes (formOf form) (jointsOf b)
-      → Solves b p true (before - after) form
+      → Solves b p false (before - after) form
   done-outcome lc lk lr t before after eb ea =
       record {
-        clash = λ e. absurd (true≢false e);
+        no-picture = λ e. absurd (false≢true e);
         after = λ _. taken-after g x (rigFacts p) (form .class) (form .kind) (form .link) lc lk lr t;
         count = λ _. cc (unpacked-classes g x, taken-classes g x (rigFacts p) (form .class) (form .kind) (form .link) lc lk lr t);
       }

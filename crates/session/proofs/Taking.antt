@@ -66,11 +66,11 @@ pub take-size : (b p : List ℕ) → refuses (takeRefusal b p) ≡ false → len
 unfolding takeRefusal
 take-size b p e = good-block b (or-neither (blockReply b) _ e .0) .size
 
-pub take-clashes : {b p : List ℕ} {ok : Bool} {joins : ℕ} {form : Solved} → takeRefusal b p ≡ Done 0 → Solves b p ok joins form → ok ≡ false → Take b p Clash b
-take-clashes d s e = clashes d (s .clash e) refl refl
+pub take-clashes : {b p : List ℕ} {clash : Bool} {joins : ℕ} {form : Solved} → takeRefusal b p ≡ Done 0 → Solves b p clash joins form → clash ≡ true → Take b p Clash b
+take-clashes d s e = clashes d (s .no-picture e) refl refl
 
 pub take-done :
-    {b p after : List ℕ} {ok : Bool} {joins : ℕ} {form : Solved}
-    → takeRefusal b p ≡ Done 0 → Solves b p ok joins form → ok ≡ true → after ≡ withSolved b form → Take b p (Done joins) after
-take-done {b} {p} {after} {ok} {joins} {form} d s e q =
+    {b p after : List ℕ} {clash : Bool} {joins : ℕ} {form : Solved}
+    → takeRefusal b p ≡ Done 0 → Solves b p clash joins form → clash ≡ false → after ≡ withSolved b form → Take b p (Done joins) after
+take-done {b} {p} {after} {clash} {joins} {form} d s e q =
     subst (λ (a : List ℕ). Take b p (Done joins) a) (sym q) (done d (s .after e) (ap Done (s .count e)))

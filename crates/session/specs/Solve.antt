@@ -15,7 +15,7 @@ use Rattle.session.specs.Take.{After}
 abbrev pub withSolved : List ℕ → Solved → List ℕ
 withSolved b form = withForm b (form .class) (form .kind) (form .link)
 
-pub record Solves (b p : List ℕ) (ok : Bool) (joins : ℕ) (form : Solved) : Type 0 where
-  pub clash : ok ≡ false → Clash {n = kindsOf b} (meetOf b) Every (taken b ++ rigFacts p)
-  pub after : ok ≡ true → After b (rigFacts p) (withSolved b form)
-  pub count : ok ≡ true → joins ≡ classCount b - classCount (withSolved b form)
+pub record Solves (b p : List ℕ) (clash : Bool) (joins : ℕ) (form : Solved) : Type 0 where
+  pub no-picture : clash ≡ true → Clash {n = kindsOf b} (meetOf b) Every (taken b ++ rigFacts p)
+  pub after : clash ≡ false → After b (rigFacts p) (withSolved b form)
+  pub count : clash ≡ false → joins ≡ classCount b - classCount (withSolved b form)

@@ -20,7 +20,7 @@ use solver::Solved;
 
 // What the solver makes of a packet: the next form and the number of joins, or a clash.
 pub struct Outcome {
-    pub ok: bool,
+    pub clash: bool,
     pub joins: u32,
     pub form: Solved,
 }
@@ -68,7 +68,7 @@ fn refusal(block: &[u8], packet: &[u8]) -> Reply
 // The packet's facts taken with those of the block.
 fn solve(block: &[u8], packet: &[u8]) -> Outcome
     requires { ⌜ takeRefusal (now block) (now packet) ≡ Reply.Done 0 ⌝ }
-    ensures { λ r. ⌜ Solves (now (block .entry)) (now (packet .entry)) (r .ok) (r .joins) (r .form) ⌝ }
+    ensures { λ r. ⌜ Solves (now (block .entry)) (now (packet .entry)) (r .clash) (r .joins) (r .form) ⌝ }
 {
     let n = block[0] as usize;
     let v = block[1] as usize;
@@ -78,14 +78,14 @@ fn solve(block: &[u8], packet: &[u8]) -> Outcome
     let taken = next.form;
     if !next.ok {
         return Outcome {
-            ok: false,
+            clash: true,
             joins: 0,
             form: start,
         };
     }
     let joins = solver::classes_in(start, v) - solver::classes_in(taken, v);
     Outcome {
-        ok: true,
+        clash: false,
         joins: joins as u32,
         form: taken,
     }
@@ -96,11 +96,12 @@ pub fn take(block: &mut [u8], packet: &[u8]) -> Reply
     ensures { λ r. ⌜ Take (now (block .entry)) (now (packet .entry)) r (now (block .exit)) ⌝ }
 {
     let reply = refusal(block, packet);
-    if replies::is_refusal(reply) {
+    let refused = replies::is_refusal(reply);
+    if refused {
         return reply;
     }
     let outcome = solve(block, packet);
-    if !outcome.ok {
+    if outcome.clash {
         return Reply::Clash;
     }
     let form = outcome.form;

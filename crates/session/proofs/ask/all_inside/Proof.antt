@@ -1,4 +1,4 @@
--- `session::ask/all_inside` meets its contract. The loop's invariant: the rule joints passed are one with rig joints.
+-- `session::ask::all_inside` meets its contract. The loop's invariant: the rule joints passed are one with rig joints.
 -- The measure is what is left of the rule joints.
 -- Assumes nothing.
 use Prim.Native.Nat.{ℕ, _+_, _-_, _<_, _≤_}

@@ -1,4 +1,4 @@
--- `session::ask/ask` meets its contract: each return is one of its three cases.
+-- `session::ask::ask` meets its contract: each return is one of its three cases.
 -- Assumes nothing.
 use mathlib.Core.Path.{_≡_, sym, ap, _∙_}
 use borrow.Author.Needs.{needs}

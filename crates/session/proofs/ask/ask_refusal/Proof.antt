@@ -1,4 +1,4 @@
--- `session::ask/ask_refusal` meets its contract: the block's reply where it refuses, and else the packet's.
+-- `session::ask::ask_refusal` meets its contract: the block's reply where it refuses, and else the packet's.
 -- Assumes nothing.
 use mathlib.Core.Path.{_≡_, sym, ap, _∙_}
 use mathlib.Core.Bool.{false}

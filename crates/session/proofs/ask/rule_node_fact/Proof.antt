@@ -1,4 +1,4 @@
--- `session::ask/rule_node_fact` meets its contract: each joint of the fact gives its node.
+-- `session::ask::rule_node_fact` meets its contract: each joint of the fact gives its node.
 -- Assumes nothing.
 use native.Mathlib.Omega.{arith}
 use borrow.Author.Needs.{needs}

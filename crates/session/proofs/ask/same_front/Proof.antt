@@ -1,4 +1,4 @@
--- `session::ask/same_front` meets its contract. The loop's invariant: the bytes passed are the same.
+-- `session::ask::same_front` meets its contract. The loop's invariant: the bytes passed are the same.
 -- The measure is what is left of the count.
 -- Assumes nothing.
 use Prim.Native.Nat.{_-_, _≤_}

@@ -1,4 +1,4 @@
--- `session::ask/same_rig` meets its contract: the answer is no at the first list that differs, and else that of the last.
+-- `session::ask::same_rig` meets its contract: the answer is no at the first list that differs, and else that of the last.
 -- Assumes nothing.
 use mathlib.Core.Path.{_≡_}
 use lib.ListN.{length}

@@ -1,4 +1,4 @@
--- `session::ask/settled` meets its contract: the rig's part first, then the rule's joints.
+-- `session::ask::settled` meets its contract: the rig's part first, then the rule's joints.
 -- Assumes nothing.
 use borrow.Author.Needs.{needs}
 use borrow.Author.Tests.{not-true, not-false}

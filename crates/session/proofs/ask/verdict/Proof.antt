@@ -1,4 +1,4 @@
--- `session::ask/verdict` meets its contract: what the rule's ties and facts come to, taken behind the block's form, is the verdict.
+-- `session::ask::verdict` meets its contract: what the rule's ties and facts come to, taken behind the block's form, is the verdict.
 -- Assumes nothing.
 use mathlib.Core.Path.{_≡_}
 use Prim.Native.Nat.{ℕ, _+_, _-_, _*_}

@@ -1,4 +1,4 @@
--- `session::ask/with_rule` meets its contract: a clash of the ties is one of the rule, and else the facts decide.
+-- `session::ask::with_rule` meets its contract: a clash of the ties is one of the rule, and else the facts decide.
 -- Assumes nothing.
 use borrow.Author.Needs.{needs}
 use borrow.Author.Tests.{not-true, not-false}

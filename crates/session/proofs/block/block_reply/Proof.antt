@@ -1,4 +1,4 @@
--- `session::block/block_reply` meets its contract: each return is the case of the tests before it.
+-- `session::block::block_reply` meets its contract: each return is the case of the tests before it.
 -- Assumes nothing.
 use mathlib.Core.Path.{sym, _∙_}
 use borrow.Author.Tests.{not-true, not-false}

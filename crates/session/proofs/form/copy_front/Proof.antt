@@ -1,4 +1,4 @@
--- `session::form/copy_front` meets its contract: the places before i are those of the other slice.
+-- `session::form::copy_front` meets its contract: the places before i are those of the other slice.
 -- Assumes nothing.
 use mathlib.Core.Path.{_≡_, refl}
 use native.Mathlib.Omega.{arith}

@@ -1,4 +1,4 @@
--- `session::form/fill` meets its contract: the places before `at` are written.
+-- `session::form::fill` meets its contract: the places before `at` are written.
 -- Assumes nothing.
 use mathlib.Core.Path.{_≡_, sym}
 use native.Mathlib.Omega.{arith}

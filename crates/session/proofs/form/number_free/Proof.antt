@@ -1,4 +1,4 @@
--- `session::form/number_free` meets its contract: the places before `at` are written, and the others are as they were.
+-- `session::form::number_free` meets its contract: the places before `at` are written, and the others are as they were.
 -- Assumes nothing.
 use mathlib.Core.Path.{_≡_, sym, _∙_, ap}
 use native.Mathlib.Omega.{arith}

@@ -1,4 +1,4 @@
--- `session::form/numbered_from` meets its contract: each return is the case of the tests before it.
+-- `session::form::numbered_from` meets its contract: each return is the case of the tests before it.
 -- Assumes nothing.
 use borrow.Author.Tests.{lt-ltb, le-ltb}
 use borrow.Author.Needs.{needs}

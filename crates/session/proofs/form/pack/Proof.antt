@@ -1,4 +1,4 @@
--- `session::form/pack` meets its contract: three parts of the block are replaced, one after the other.
+-- `session::form::pack` meets its contract: three parts of the block are replaced, one after the other.
 -- Assumes nothing.
 use mathlib.Core.Path.{_≡_}
 use lib.ListN.{length, length-take}

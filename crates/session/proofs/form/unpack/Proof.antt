@@ -1,4 +1,4 @@
--- `session::form/unpack` meets its contract: each part is filled from the block, and each free node made a class of its own.
+-- `session::form::unpack` meets its contract: each part is filled from the block, and each free node made a class of its own.
 -- Assumes nothing.
 use mathlib.Core.Path.{refl}
 use borrow.Author.Needs.{needs}

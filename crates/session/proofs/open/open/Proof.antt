@@ -1,4 +1,4 @@
--- `session::open/open` meets its contract: a refusal changes no byte, otherwise the fresh block is written.
+-- `session::open::open` meets its contract: a refusal changes no byte, otherwise the fresh block is written.
 -- Assumes nothing.
 use mathlib.Core.Path.{_∙_}
 use native.Mathlib.Omega.{arith}

@@ -1,4 +1,4 @@
--- `session::open/open_reply` meets its contract: 1 where the sizes do not fit, otherwise the reply to the table.
+-- `session::open::open_reply` meets its contract: 1 where the sizes do not fit, otherwise the reply to the table.
 -- Assumes nothing.
 use mathlib.Core.Path.{sym, _∙_}
 use borrow.Author.Tests.{not-true, not-false}

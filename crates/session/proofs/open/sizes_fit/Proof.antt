@@ -1,4 +1,4 @@
--- `session::open/sizes_fit` meets its contract: each return is the case of the tests before it.
+-- `session::open::sizes_fit` meets its contract: each return is the case of the tests before it.
 -- Assumes nothing.
 use native.Mathlib.Omega.{arith}
 use Rattle.kinds.proofs.Offset.{square-le}

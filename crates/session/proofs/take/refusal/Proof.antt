@@ -1,4 +1,4 @@
--- `session::take/refusal` meets its contract: the reply to the block, and where that does not refuse the reply to the packet.
+-- `session::take::refusal` meets its contract: the reply to the block, and where that does not refuse the reply to the packet.
 -- Assumes nothing.
 use mathlib.Core.Path.{sym, _∙_}
 use native.Mathlib.Omega.{arith}

@@ -1,4 +1,4 @@
--- `session::take/rig_node_fact` meets its contract, by the cases of the fact.
+-- `session::take::rig_node_fact` meets its contract, by the cases of the fact.
 -- Assumes nothing.
 use mathlib.Core.Path.{sym, ap}
 use Rattle.meaning.specs.declared.RigFact.{RigFact}

@@ -1,4 +1,4 @@
--- `session::take/solve` meets its contract: the answer of the solver, on the block's own form and table.
+-- `session::take::solve` meets its contract: the answer of the solver, on the block's own form and table.
 -- Assumes nothing.
 use Rattle.meaning.specs.Picture.{rename}
 use Rattle.meaning.specs.Form.{classes}

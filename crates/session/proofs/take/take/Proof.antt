@@ -1,7 +1,6 @@
--- `session::take/take` meets its contract: refused, a clash, or done with the next form in the block.
+-- `session::take::take` meets its contract: refused, a clash, or done with the next form in the block.
 -- Assumes nothing.
 use mathlib.Core.Path.{refl}
-use borrow.Author.Tests.{not-true, not-false}
 use Rattle.replies.proofs.Laws.{tested}
 use Rattle.session.specs.Take.Take.{refused}
 use Rattle.session.proofs.Taking.{take-goes-on, take-size, take-clashes, take-done}
@@ -28,16 +27,16 @@ same-length-2 : tie.Need-same-length-2
 same-length-2 c = search needs
 
 returns-2 : tie.Need-returns-2
-returns-2 c = take-clashes (take-goes-on _ _ (tested (c .before .before .before .before .before .before .refusal .ensures) (c .before .before .before .before .before .is-refusal .ensures) (c .before .before .before .before .if1 .left))) (c .before .before .solve .ensures) (not-true _ (c .if2 .taken))
+returns-2 c = take-clashes (take-goes-on _ _ (tested (c .before .before .before .before .before .refusal .ensures) (c .before .before .before .before .is-refusal .ensures) (c .before .before .before .if1 .left))) (c .before .solve .ensures) (c .if2 .taken)
 
 pack-requires : tie.Need-pack-requires
-pack-requires c κs = take-size _ _ (tested (c .before .before .before .before .before .before .before .before .refusal .ensures) (c .before .before .before .before .before .before .before .is-refusal .ensures) (c .before .before .before .before .before .before .if1 .left))
+pack-requires c κs = take-size _ _ (tested (c .before .before .before .before .before .before .before .refusal .ensures) (c .before .before .before .before .before .before .is-refusal .ensures) (c .before .before .before .before .before .if1 .left))
 
 same-length-3 : tie.Need-same-length-3
 same-length-3 c = search needs
 
 returns-3 : tie.Need-returns-3
-returns-3 c = take-done (take-goes-on _ _ (tested (c .before .before .before .before .before .before .before .before .before .before .before .refusal .ensures) (c .before .before .before .before .before .before .before .before .before .before .is-refusal .ensures) (c .before .before .before .before .before .before .before .before .before .if1 .left))) (c .before .before .before .before .before .before .before .solve .ensures) (not-false _ (c .before .before .before .before .before .if2 .left)) (c .before .before .pack .ensures)
+returns-3 c = take-done (take-goes-on _ _ (tested (c .before .before .before .before .before .before .before .before .before .before .refusal .ensures) (c .before .before .before .before .before .before .before .before .before .is-refusal .ensures) (c .before .before .before .before .before .before .before .before .if1 .left))) (c .before .before .before .before .before .before .solve .ensures) (c .before .before .before .before .before .if2 .left) (c .before .before .pack .ensures)
 
 pub take-spec : {M : Type 1} → statement M
 take-spec =

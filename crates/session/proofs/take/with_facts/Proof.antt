@@ -1,4 +1,4 @@
--- `session::take/with_facts` meets its contract. At i, the facts from i on are to be taken from the form at hand.
+-- `session::take::with_facts` meets its contract. At i, the facts from i on are to be taken from the form at hand.
 -- Assumes nothing.
 use mathlib.Core.Path.{_≡_, refl, sym, _∙_, ap}
 use mathlib.Core.List.{List, [], _∷_}

@@ -1,4 +1,4 @@
--- `session::write/class_at` meets its contract: the class numbers stand from byte 2 on.
+-- `session::write::class_at` meets its contract: the class numbers stand from byte 2 on.
 -- Assumes nothing.
 use mathlib.Core.Path.{sym}
 use Rattle.blocks.proofs.Checks.{part-at}

@@ -1,4 +1,4 @@
--- `session::write/kind_at` meets its contract: the kinds stand from byte 66 on.
+-- `session::write::kind_at` meets its contract: the kinds stand from byte 66 on.
 -- Assumes nothing.
 use mathlib.Core.Path.{sym}
 use Rattle.blocks.proofs.Checks.{part-at}

@@ -1,4 +1,4 @@
--- `session::write/link_at` meets its contract: the rows stand from byte 130 on.
+-- `session::write::link_at` meets its contract: the rows stand from byte 130 on.
 -- Assumes nothing.
 use mathlib.Core.Path.{sym}
 use Prim.Native.Nat.{_+_, _*_}

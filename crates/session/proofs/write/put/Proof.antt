@@ -1,4 +1,4 @@
--- `session::write/put` meets its contract: four stores, one after the other.
+-- `session::write::put` meets its contract: four stores, one after the other.
 -- Assumes nothing.
 use native.Mathlib.Omega.{arith}
 use lib.ListN.{length-set}

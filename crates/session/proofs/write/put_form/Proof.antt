@@ -1,4 +1,4 @@
--- `session::write/put_form` meets its contract: the facts stand from byte 6 on, and the first six bytes are put last.
+-- `session::write::put_form` meets its contract: the facts stand from byte 6 on, and the first six bytes are put last.
 -- Assumes nothing.
 use native.Mathlib.Omega.{arith}
 use Rattle.blocks.specs.Layout.{jointsOf}

@@ -1,4 +1,4 @@
--- `session::write/put_header` meets its contract: six stores, one after the other.
+-- `session::write::put_header` meets its contract: six stores, one after the other.
 -- Assumes nothing.
 use Prim.Native.Nat.{_/_, _%_}
 use native.Mathlib.Omega.{arith}

@@ -1,4 +1,4 @@
--- `session::write/put_joint` meets its contract: the case of the class that was read.
+-- `session::write::put_joint` meets its contract: the case of the class that was read.
 -- Assumes nothing.
 use Rattle.blocks.specs.Layout.{blockForm}
 use Rattle.session.proofs.Writing.{other-room, other-put, kind-room, links-room, smallest-put}

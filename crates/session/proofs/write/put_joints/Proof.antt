@@ -1,4 +1,4 @@
--- `session::write/put_joints` meets its contract: what is written, and the facts of the joints from j on that are left to write.
+-- `session::write::put_joints` meets its contract: what is written, and the facts of the joints from j on that are left to write.
 -- Assumes nothing.
 use Prim.Native.Nat.{_-_, _+_, _≤_}
 use native.Mathlib.Omega.{arith}

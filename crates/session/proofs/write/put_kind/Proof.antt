@@ -1,4 +1,4 @@
--- `session::write/put_kind` meets its contract: a kind that is 1 is left out.
+-- `session::write::put_kind` meets its contract: a kind that is 1 is left out.
 -- Assumes nothing.
 use mathlib.Core.List.{[], _∷_}
 use Rattle.session.proofs.Writing.{left-out, room-needed, put-in}

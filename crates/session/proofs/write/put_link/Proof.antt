@@ -1,4 +1,4 @@
--- `session::write/put_link` meets its contract: a link that is not known is left out.
+-- `session::write::put_link` meets its contract: a link that is not known is left out.
 -- Assumes nothing.
 use mathlib.Core.List.{[], _∷_}
 use Rattle.session.proofs.Writing.{left-out, room-needed, put-in}

@@ -1,4 +1,4 @@
--- `session::write/put_links` meets its contract: what is written, and the links from l on that are left to write.
+-- `session::write::put_links` meets its contract: what is written, and the links from l on that are left to write.
 -- Assumes nothing.
 use mathlib.Core.Path.{refl}
 use Prim.Native.Nat.{_-_, _+_, _≤_}

@@ -1,4 +1,4 @@
--- `session::write/write` meets its contract: each return is an answer of the definition, by the tests before it.
+-- `session::write::write` meets its contract: each return is an answer of the definition, by the tests before it.
 -- Assumes nothing.
 use mathlib.Core.Path.{refl, _∙_, sym}
 use Prim.Native.Nat.{_≤_}
