@@ -1,4 +1,4 @@
--- The stores of `joined`, `with_kind` and `with_link`, put together: each makes the form that its step names.
+-- The stores of `joined` and `with_fact`, put together: each makes the form that its step names.
 -- Assumes nothing.
 use mathlib.Core.Path.{_≡_, refl, sym, _∙_, ap, ap₂}
 use mathlib.Core.Logic.{_≢_, by-cases}

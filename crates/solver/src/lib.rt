@@ -29,8 +29,8 @@ pub enum NodeFact {
 
 // The next form, or a clash. (An enum may not hold an array, hence the flag beside it.)
 pub struct Next {
-    pub ok: bool,
     pub form: Solved,
+    pub ok: bool,
 }
 
 // b becomes a, any other number stays.
@@ -241,65 +241,56 @@ impl Solved {
         Next { ok: true, form }
     }
 
-    // x and y made one. Where they are one already, no list is made.
-    fn with_same(self, table: &[u8], n: usize, v: usize, x: u8, y: u8) -> Next
-        requires { ⌜ Ready n v (now table) (formOf self) × (x < v) × (y < v) ⌝ }
-        ensures { λ r. ⌜ Took n (meetAt n (now (table .entry))) v (formOf self) (same x y ∷ []) (r .ok) (formOf (r .form)) ⌝ }
-    {
-        if self.class[x as usize] == self.class[y as usize] {
-            return Next {
-                ok: true,
-                form: self,
-            };
-        }
-        self.settled(table, n, v, x, y)
-    }
-
-    // The kind of x's class met with s; a clash where they have nothing in common.
-    fn with_kind(self, table: &[u8], n: usize, v: usize, x: u8, s: u8) -> Next
-        requires { ⌜ Ready n v (now table) (formOf self) × (x < v) × (s < n) ⌝ }
-        ensures { λ r. ⌜ Took n (meetAt n (now (table .entry))) v (formOf self) (has-kind x s ∷ []) (r .ok) (formOf (r .form)) ⌝ }
-    {
-        let a = self.class[x as usize];
-        let known = self.kind[a as usize];
-        let met = kinds::meet(table, n, known as usize, s as usize);
-        if met == 0 {
-            return Next {
-                ok: false,
-                form: self,
-            };
-        }
-        let mut form = self;
-        form.kind[a as usize] = met;
-        Next { ok: true, form }
-    }
-
-    // Link l of x's class leads to y's class; where it is known already, its end and y are made one.
-    fn with_link(self, table: &[u8], n: usize, v: usize, x: u8, l: u8, y: u8) -> Next
-        requires { ⌜ Ready n v (now table) (formOf self) × (x < v) × (l < 16) × (y < v) ⌝ }
-        ensures { λ r. ⌜ Took n (meetAt n (now (table .entry))) v (formOf self) (leads x l y ∷ []) (r .ok) (formOf (r .form)) ⌝ }
-    {
-        let a = self.class[x as usize];
-        let at = a as usize * 16 + l as usize;
-        let end = self.link[at];
-        if end != 255 {
-            return self.with_same(table, n, v, end, y);
-        }
-        let c = self.class[y as usize];
-        let mut form = self;
-        form.link[at] = c;
-        Next { ok: true, form }
-    }
-
-    // The form with one fact more and all that follows from it, or a clash.
+    // The form with one fact more and all that follows from it, or a clash. A copy of the form costs more than most facts do: it is copied
+    // in once, changed in place and copied out once, and only where classes are to be joined is it handed on.
     pub fn with_fact(self, table: &[u8], n: usize, v: usize, fact: NodeFact) -> Next
         requires { ⌜ Ready n v (now table) (formOf self) × InRange n v (nodeFact fact) ⌝ }
         ensures { λ r. ⌜ Took n (meetAt n (now (table .entry))) v (formOf self) (nodeFact fact ∷ []) (r .ok) (formOf (r .form)) ⌝ }
     {
+        let mut form = self;
         match fact {
-            NodeFact::Kind(x, s) => self.with_kind(table, n, v, x, s),
-            NodeFact::Same(x, y) => self.with_same(table, n, v, x, y),
-            NodeFact::Link(x, l, y) => self.with_link(table, n, v, x, l, y),
+            // The kind of x's class is met with s; a clash where they have nothing in common.
+            NodeFact::Kind(x, s) => {
+                let a = form.class[x as usize];
+                let known = form.kind[a as usize];
+                let met = kinds::meet(table, n, known as usize, s as usize);
+                if met == 0 {
+                    return Next { form, ok: false };
+                }
+                form.kind[a as usize] = met;
+                return Next { form, ok: true };
+            }
+            NodeFact::Same(x, y) => {
+                if form.class[x as usize] == form.class[y as usize] {
+                    return Next { form, ok: true };
+                }
+                let next = self.settled(table, n, v, x, y);
+                let joined = next.form;
+                return Next {
+                    form: joined,
+                    ok: next.ok,
+                };
+            }
+            // Link l of x's class leads to y's class; where it is known already, its end and y are made one.
+            NodeFact::Link(x, l, y) => {
+                let a = form.class[x as usize];
+                let at = a as usize * 16 + l as usize;
+                let end = form.link[at];
+                let c = form.class[y as usize];
+                if end == 255 {
+                    form.link[at] = c;
+                    return Next { form, ok: true };
+                }
+                if form.class[end as usize] == c {
+                    return Next { form, ok: true };
+                }
+                let next = self.settled(table, n, v, end, y);
+                let joined = next.form;
+                return Next {
+                    form: joined,
+                    ok: next.ok,
+                };
+            }
         }
     }
 }
