@@ -3,14 +3,16 @@
 -- Assumes nothing.
 use mathlib.Core.Path.{_≡_, refl, sym, ap, _∙_, subst}
 use mathlib.Core.Logic.{by-cases}
-use mathlib.Core.Bool.{Bool, true, false, cond, true≢false, false≢true}
+use mathlib.Core.Bool.{Bool, true, false, cond, false≢true}
 use mathlib.Core.List.{List, List·Memᴰ, Memᴰ·cast}
 use Prim.Native.Nat.{ℕ, zero, suc, _+_, _≤_, _<_}
 use native.Mathlib.Omega.{arith}
 use native.Mathlib.Numerals.{add-one}
 use native.Mathlib.Nat.{not-suc-le-zero}
 use native.Mathlib.Decide.{ℕ-discrete}
+use lib.Dec.{eqb}
 use lib.ListN.{getD, replicate}
+use borrow.Author.Tests.{eq-eqb, eqb-true}
 use Rattle.meaning.specs.declared.RuleJoint.{RuleJoint}
 use Rattle.meaning.specs.declared.Tie.{Tie}
 use Rattle.meaning.specs.Picture.{Fact}
@@ -38,15 +40,15 @@ with-sound p {j = j} w h s =
           (λ d. s .reached k (sym (w .others k d) ∙ e));
     }
 
-nowhere : (n j : ℕ) → getD (replicate n false) j false ≡ false
+nowhere : (n j : ℕ) → _≡_ {A = ℕ} (getD (replicate n 0) j 0) 0
 nowhere zero j = refl
 nowhere (suc n) zero = refl
 nowhere (suc n) (suc j) = nowhere n j
 
 module _ (p : List ℕ) where
   -- nothing is marked
-  pub none-sound : (n : ℕ) → Sound p (record { 0 = replicate n false })
-  none-sound n = record { reached = λ j h. absurd (true≢false (sym h ∙ nowhere n j)) }
+  pub none-sound : (n : ℕ) → Sound p (record { 0 = replicate n 0 })
+  none-sound n = record { reached = λ j h. absurd (let e = nowhere n j in omega arith) }
 
   pub grown-same : (m : Marks) → Grown p m m
   grown-same m = record { keeps = λ j h. h; sound = λ s. s }
@@ -113,31 +115,37 @@ pub one-most : (a : Bool) → cond a 1 0 ≤ 1
 one-most true = omega arith
 one-most false = omega arith
 
-one-le : (a b : Bool) → (a ≡ true → b ≡ true) → cond a 1 0 ≤ cond b 1 0
-one-le true true h = omega arith
-one-le true false h = absurd (false≢true (h refl))
-one-le false b h = omega arith
+cond-le : (a b : Bool) → (a ≡ true → b ≡ true) → cond a 1 0 ≤ cond b 1 0
+cond-le true true h = omega arith
+cond-le true false h = absurd (false≢true (h refl))
+cond-le false b h = omega arith
 
-one-same : (a b : Bool) → _≡_ {A = ℕ} (cond b 1 0) (cond a 1 0) → b ≡ true → a ≡ true
-one-same true b e h = refl
-one-same false true e h = absurd (omega arith)
-one-same false false e h = h
+cond-same : (a b : Bool) → _≡_ {A = ℕ} (cond b 1 0) (cond a 1 0) → b ≡ true → a ≡ true
+cond-same true b e h = refl
+cond-same false true e h = absurd (omega arith)
+cond-same false false e h = h
 
-pub marked-step : (m : Marks) (j : ℕ) → marked m (j + 1) ≡ marked m j + cond (getD (m .0) j false) 1 0
+one-le : (a b : ℕ) → (a ≡ 1 → b ≡ 1) → cond (eqb a 1) 1 0 ≤ cond (eqb b 1) 1 0
+one-le a b h = cond-le (eqb a 1) (eqb b 1) (λ e. eq-eqb b 1 (h (eqb-true a 1 e)))
+
+one-same : (a b : ℕ) → _≡_ {A = ℕ} (cond (eqb b 1) 1 0) (cond (eqb a 1) 1 0) → b ≡ 1 → a ≡ 1
+one-same a b e h = eqb-true a 1 (cond-same (eqb a 1) (eqb b 1) e (eq-eqb b 1 h))
+
+pub marked-step : (m : Marks) (j : ℕ) → marked m (j + 1) ≡ marked m j + cond (eqb (getD (m .0) j 0) 1) 1 0
 unfolding marked
 marked-step m j = rw add-one
 
 pub marked-le : (m : Marks) (k : ℕ) → marked m k ≤ k
 unfolding marked
 marked-le m zero = omega arith
-marked-le m (suc k) = omega (arith, marked-le m k, one-most (getD (m .0) k false))
+marked-le m (suc k) = omega (arith, marked-le m k, one-most (eqb (getD (m .0) k 0) 1))
 
 -- r has the marks of m
 module _ (m r : Marks) (keeps : (j : ℕ) → Marked m j → Marked r j) where
   pub marked-more : (k : ℕ) → marked m k ≤ marked r k
   unfolding marked
   marked-more zero = omega arith
-  marked-more (suc k) = omega (arith, marked-more k, one-le (getD (m .0) k false) (getD (r .0) k false) (keeps k))
+  marked-more (suc k) = omega (arith, marked-more k, one-le (getD (m .0) k 0) (getD (r .0) k 0) (keeps k))
 
   -- where there are no more of them, they are the same
   pub marked-same : (k : ℕ) → marked r k ≡ marked m k → (j : ℕ) → j < k → Marked r j → Marked m j
@@ -145,11 +153,11 @@ module _ (m r : Marks) (keeps : (j : ℕ) → Marked m j → Marked r j) where
   marked-same zero e j h q = absurd (not-suc-le-zero h)
   marked-same (suc k) e j h q =
       let more = marked-more k in
-      let one = one-le (getD (m .0) k false) (getD (r .0) k false) (keeps k) in
+      let one = one-le (getD (m .0) k 0) (getD (r .0) k 0) (keeps k) in
       by-cases (ℕ-discrete j k)
       (λ x.
       subst (λ (i : ℕ). Marked m i) (sym x)
-      (one-same (getD (m .0) k false) (getD (r .0) k false) (omega arith) (subst (λ (i : ℕ). Marked r i) x q)))
+      (one-same (getD (m .0) k 0) (getD (r .0) k 0) (omega arith) (subst (λ (i : ℕ). Marked r i) x q)))
       (λ d. marked-same k (omega arith) j (omega arith) q)
 
 -- a pass that marks nothing more has followed every fact

@@ -2,9 +2,10 @@
 -- Assumes nothing.
 use mathlib.Core.Path.{_≡_}
 use mathlib.Core.Logic.{_≢_}
-use mathlib.Core.Bool.{Bool, true, false, cond}
+use mathlib.Core.Bool.{cond}
 use mathlib.Core.List.{List}
 use Prim.Native.Nat.{ℕ, zero, suc, _+_, _<_}
+use lib.Dec.{eqb}
 use lib.ListN.{getD}
 use Rattle.meaning.specs.declared.RuleJoint.{RuleJoint}
 use Rattle.meaning.specs.Picture.{Fact}
@@ -19,12 +20,12 @@ abbrev pub nthFact : List ℕ → ℕ → Fact RuleJoint
 nthFact p i = factOf ruleJoint p (factAt p i)
 
 abbrev pub Marked : Marks → ℕ → Type 0
-Marked m j = getD (m .0) j false ≡ true
+Marked m j = getD (m .0) j 0 ≡ 1
 
 -- r has the mark of j besides those of m
 pub record WithMark (m : Marks) (j : ℕ) (r : Marks) : Type 0 where
   pub here : Marked r j
-  pub others : (k : ℕ) → k ≢ j → getD (r .0) k false ≡ getD (m .0) k false
+  pub others : (k : ℕ) → k ≢ j → getD (r .0) k 0 ≡ getD (m .0) k 0
 
 -- r has the mark of c besides those of m where m has that of a, and else it is m
 pub data LinkMarked (m : Marks) (a c : RuleJoint) : Marks → Type 0 where
@@ -62,4 +63,4 @@ pub record Closed (p : List ℕ) (m : Marks) : Type 0 where
 -- how many of the joints below k are marked
 unfoldable pub marked : Marks → ℕ → ℕ
 marked m zero = 0
-marked m (suc k) = marked m k + cond (getD (m .0) k false) 1 0
+marked m (suc k) = marked m k + cond (eqb (getD (m .0) k 0) 1) 1 0

@@ -1,7 +1,8 @@
 // Packets: the reply to any bytes, and what a well-formed packet says, part by part.
 ghost use mathlib.Core.Path.{_≡_};
-ghost use mathlib.Core.Bool.{false, _&&_, cond};
+ghost use mathlib.Core.Bool.{_&&_, cond};
 ghost use Prim.Native.Nat.{_+_, _*_, _^_, _<_, _≤_};
+ghost use lib.Dec.{eqb};
 ghost use lib.ListN.{length, getD};
 ghost use Rattle.packets.specs.Packet.{byte, L, ties, factAt, factCount, lengthFits, countFits, Whole, factsWanted, ruleWanted, within, tieFits, factFits, factsReply, tiesReply, packetReply};
 ghost use Rattle.packets.specs.Facts.{factOf, tieOf, rigFact, ruleFact, ruleOf};
@@ -264,15 +265,15 @@ pub fn tie(packet: &[u8], at: usize) -> Tie
     }
 }
 
-// Which of a rule's joints are known to be reached.
-pub struct Marks(pub [bool; 32]);
+// Which of a rule's joints are known to be reached: 1 for a joint that is, else 0. Bytes, not bools, since a copy of bytes is one move.
+pub struct Marks(pub [u8; 32]);
 
 fn is_marked(marks: Marks, j: usize) -> bool
     requires { ⌜ j < 32 ⌝ }
-    ensures { λ b. ⌜ b ≡ getD (marks .0) j false ⌝ }
+    ensures { λ b. ⌜ b ≡ eqb (getD (marks .0) j 0) 1 ⌝ }
 {
     let on = marks.0;
-    on[j]
+    on[j] == 1
 }
 
 // The joint j marked, too.
@@ -281,7 +282,7 @@ fn mark(marks: Marks, j: usize) -> Marks
     ensures { λ r. ⌜ WithMark marks j r ⌝ }
 {
     let mut on = marks.0;
-    on[j] = true;
+    on[j] = 1;
     Marks(on)
 }
 
@@ -291,7 +292,7 @@ fn mark_ties(packet: &[u8]) -> Marks
     ensures { λ r. ⌜ Sound (now (packet .entry)) r × TiesMarked (now (packet .entry)) r ⌝ }
 {
     let count = byte_at(packet, 4);
-    let mut marks = Marks([false; 32]);
+    let mut marks = Marks([0u8; 32]);
     for i in 0..count {
         let j = byte_at(packet, 6 + 2 * i);
         marks = mark(marks, j);

@@ -2,10 +2,10 @@
 -- The measure is what is left of the joints.
 -- Assumes nothing.
 use mathlib.Core.Path.{sym, _∙_}
-use mathlib.Core.Bool.{true≢false}
 use Prim.Native.Nat.{ℕ, _-_, _≤_, _<_}
 use native.Mathlib.Omega.{arith}
 use borrow.Author.Needs.{needs}
+use borrow.Author.Tests.{eqb-true, eqb-false}
 use borrow.Author.Count.{below-none, below-more}
 use Rattle.packets.specs.Reached.SmallestNot.{all, not-reached}
 use Rattle.packets.specs.Marking.{Marked}
@@ -33,7 +33,7 @@ loop-less c = search needs
 loop-again : tie.Need-loop-again Inv-loop μ-loop
 loop-again c =
     let l = c .before .before .before .loop .inv in
-    (omega arith, below-more _ _ (l .1) (sym (c .before .is-marked .ensures) ∙ c .if1 .taken))
+    (omega arith, below-more _ _ (l .1) (eqb-true _ _ (sym (c .before .is-marked .ensures) ∙ c .if1 .taken)))
 
 cast-t6 : tie.Need-cast-t6 Inv-loop μ-loop
 cast-t6 c = search needs
@@ -42,7 +42,7 @@ returns : tie.Need-returns Inv-loop μ-loop
 returns c =
     let l = c .before .before .before .loop in
     not-reached (l .j) (c .before .before .loop-test .taken)
-    (λ e. true≢false (sym e ∙ sym (c .before .is-marked .ensures) ∙ c .if1 .left)) (l .inv .1)
+    (eqb-false _ _ (sym (c .before .is-marked .ensures) ∙ c .if1 .left)) (l .inv .1)
 
 returns-2 : tie.Need-returns-2 Inv-loop μ-loop
 returns-2 c = all (λ j h. c .before .loop .inv .1 j (omega arith))

@@ -1,6 +1,5 @@
 -- `packets::mark` meets its contract: a store at j, which is below the length.
 -- Assumes nothing.
-use mathlib.Core.Bool.{true, false}
 use Prim.Native.Nat.{_-_, _<_}
 use lib.ListN.{length}
 use lib.Seq.{getD-set-same, getD-set-other}
@@ -16,8 +15,8 @@ returns c =
     let a = c .before .args in
     let inside : a .j < length (a .marks .0) = search needs in
     record {
-      here = getD-set-same (a .marks .0) (a .j) true false inside;
-      others = λ k d. getD-set-other (a .marks .0) (a .j) k true false d;
+      here = getD-set-same (a .marks .0) (a .j) 1 0 inside;
+      others = λ k d. getD-set-other (a .marks .0) (a .j) k 1 0 d;
     }
 
 pub mark-spec : {M : Type 1} → statement M

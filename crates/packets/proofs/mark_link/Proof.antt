@@ -1,9 +1,9 @@
 -- `packets::mark_link` meets its contract: the test says which case holds.
 -- Assumes nothing.
 use mathlib.Core.Path.{sym, _∙_}
-use mathlib.Core.Bool.{true≢false}
 use Prim.Native.Nat.{_-_}
 use borrow.Author.Needs.{needs}
+use borrow.Author.Tests.{eqb-true, eqb-false}
 use Rattle.packets.specs.Marking.LinkMarked.{marks-c, leaves}
 use Rattle.packets.proofs.mark_link.Statement.{statement}
 use Rattle.packets.proofs.mark_link.Tie as tie
@@ -21,10 +21,11 @@ mark-requires : tie.Need-mark-requires
 mark-requires c κs = search needs
 
 returns : tie.Need-returns
-returns c = marks-c (sym (c .before .before .before .is-marked .ensures) ∙ c .before .before .if1 .taken) (c .mark .ensures)
+returns c =
+    marks-c (eqb-true _ _ (sym (c .before .before .before .is-marked .ensures) ∙ c .before .before .if1 .taken)) (c .mark .ensures)
 
 returns-2 : tie.Need-returns-2
-returns-2 c = leaves (λ e. true≢false (sym e ∙ sym (c .before .is-marked .ensures) ∙ c .if1 .left))
+returns-2 c = leaves (eqb-false _ _ (sym (c .before .is-marked .ensures) ∙ c .if1 .left))
 
 pub mark-link-spec : {M : Type 1} → statement M
 mark-link-spec =
