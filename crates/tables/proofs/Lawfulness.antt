@@ -26,7 +26,7 @@ module _ (n : ℕ) (table : List ℕ) where
   Kept [] = Unit {0}
   Kept (law ∷ more) = (keeps n table law ≡ true) × Kept more
 
-  kept-append : (xs ys : List Law) → Kept xs → Kept ys → Kept (xs ++ ys)
+  pub kept-append : (xs ys : List Law) → Kept xs → Kept ys → Kept (xs ++ ys)
   kept-append [] ys a b = b
   kept-append (x ∷ xs) ys a b = (a .0, kept-append xs ys (a .1) b)
 
@@ -52,7 +52,7 @@ module _ (n : ℕ) (table : List ℕ) where
       (λ e. rw e (kept-left (f i) (from f (suc i) c) a))
       (λ d. from-use f (suc i) c (kept-right (f i) (from f (suc i) c) a) k (omega arith) (omega arith))
 
-  each-make : (f : ℕ → List Law) (m : ℕ) → ((k : ℕ) → k < m → Kept (f k)) → Kept (forEach m f)
+  pub each-make : (f : ℕ → List Law) (m : ℕ) → ((k : ℕ) → k < m → Kept (f k)) → Kept (forEach m f)
   each-make f m h = from-make f 0 m (λ k a b. h k (omega arith))
 
   each-use : (f : ℕ → List Law) (m : ℕ) → Kept (forEach m f) → (k : ℕ) → k < m → Kept (f k)

@@ -1,8 +1,7 @@
--- `tables::check` meets its contract: the four parts of the order, each looked at where those before it refuse nothing.
+-- `tables::check` meets its contract: the parts of the order, each looked at where those before it refuse nothing.
 -- Assumes nothing.
 use mathlib.Core.Path.{_∙_, sym}
-use mathlib.Core.List.{_++_}
-use Rattle.tables.specs.Check.{entries, firsts, pairs, triples}
+use Rattle.tables.specs.Check.{entries, firsts}
 use Rattle.replies.proofs.Laws.{tested}
 use Rattle.tables.proofs.Scan.{first-of, second-of}
 use Rattle.tables.proofs.Lawfulness.{passes-kept, kept-entries}
@@ -31,28 +30,14 @@ returns-2 c = c .before .before .first-single .ensures
     ∙ sym (second-of _ _ (entries _) _ (tested (c .before .before .before .before .before .first-entry .ensures) (c .before .before .before .before .is-refusal .ensures) (c .before .before .before .if1 .left))
     ∙ first-of _ _ (firsts _) _ (tested (c .before .before .first-single .ensures) (c .before .is-refusal2 .ensures) (c .if2 .taken)))
 
-first-pair-requires : tie.Need-first-pair-requires
-first-pair-requires c κs = let p = c .before .before .before .before .before .before .before .pre in
+first-several-requires : tie.Need-first-several-requires
+first-several-requires c κs = let p = c .before .before .before .before .before .before .before .pre in
     (p, kept-entries _ _ .0 (passes-kept _ _ (entries _) (tested (c .before .before .before .before .before .first-entry .ensures) (c .before .before .before .before .is-refusal .ensures) (c .before .before .before .if1 .left))))
 
-is-refusal-requires-3 : tie.Need-is-refusal-requires-3
-is-refusal-requires-3 c κs = search needs
-
 returns-3 : tie.Need-returns-3
-returns-3 c = c .before .before .first-pair .ensures
-    ∙ sym (second-of _ _ (entries _) _ (tested (c .before .before .before .before .before .before .before .before .first-entry .ensures) (c .before .before .before .before .before .before .before .is-refusal .ensures) (c .before .before .before .before .before .before .if1 .left))
-    ∙ second-of _ _ (firsts _) _ (tested (c .before .before .before .before .before .first-single .ensures) (c .before .before .before .before .is-refusal2 .ensures) (c .before .before .before .if2 .left))
-    ∙ first-of _ _ (pairs _) _ (tested (c .before .before .first-pair .ensures) (c .before .is-refusal3 .ensures) (c .if3 .taken)))
-
-first-triple-requires : tie.Need-first-triple-requires
-first-triple-requires c κs = let p = c .before .before .before .before .before .before .before .before .before .before .pre in
-    (p, kept-entries _ _ .0 (passes-kept _ _ (entries _) (tested (c .before .before .before .before .before .before .before .before .first-entry .ensures) (c .before .before .before .before .before .before .before .is-refusal .ensures) (c .before .before .before .before .before .before .if1 .left))))
-
-returns-4 : tie.Need-returns-4
-returns-4 c = c .first-triple .ensures
-    ∙ sym (second-of _ _ (entries _) _ (tested (c .before .before .before .before .before .before .before .before .before .first-entry .ensures) (c .before .before .before .before .before .before .before .before .is-refusal .ensures) (c .before .before .before .before .before .before .before .if1 .left))
-    ∙ second-of _ _ (firsts _) _ (tested (c .before .before .before .before .before .before .first-single .ensures) (c .before .before .before .before .before .is-refusal2 .ensures) (c .before .before .before .before .if2 .left))
-    ∙ second-of _ _ (pairs _) _ (tested (c .before .before .before .first-pair .ensures) (c .before .before .is-refusal3 .ensures) (c .before .if3 .left)))
+returns-3 c = c .first-several .ensures
+    ∙ sym (second-of _ _ (entries _) _ (tested (c .before .before .before .before .before .before .first-entry .ensures) (c .before .before .before .before .before .is-refusal .ensures) (c .before .before .before .before .if1 .left))
+    ∙ second-of _ _ (firsts _) _ (tested (c .before .before .before .first-single .ensures) (c .before .before .is-refusal2 .ensures) (c .before .if2 .left)))
 
 pub check-spec : {M : Type 1} → statement M
 check-spec =
@@ -64,8 +49,5 @@ check-spec =
     first-single-requires
     is-refusal-requires-2
     returns-2
-    first-pair-requires
-    is-refusal-requires-3
-    returns-3
-    first-triple-requires
-    returns-4)
+    first-several-requires
+    returns-3)
