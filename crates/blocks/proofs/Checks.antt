@@ -1,20 +1,19 @@
 -- What the functions on blocks stand on. Checking: the answer is that to what is left to check, and each turn of a loop leaves one less.
--- Writing: each turn stores one more byte of the part that is wanted, and each part stands behind those that are written.
+-- Writing: each part stands behind those that are written.
 -- Assumes nothing.
 use mathlib.Core.Path.{_≡_, refl, ap, _∙_, sym}
-use mathlib.Core.Logic.{by-cases}
-use mathlib.Core.Bool.{Bool, true, false, not, cond, _&&_, _||_, and-eq-true-iff}
+use mathlib.Core.Bool.{Bool, true, false, not, cond, _&&_, and-eq-true-iff}
 use mathlib.Core.List.{List, [], _∷_, _++_, append-assoc, append-nil}
 use Prim.Native.Nat.{ℕ, zero, suc, _+_, _-_, _*_, _≤_, _<_}
 use native.Mathlib.Omega.{arith}
-use native.Mathlib.Decide.{ℕ-discrete, decLt}
 use native.Mathlib.Nat.{not-suc-le-zero, le-of-suc-le-suc, add-zero}
 use native.Mathlib.Numerals.{add-one}
 use lib.Dec.{eqb, leb, ltb}
-use lib.ListN.{length, getD, take, drop, set, replicate, length-append, length-set, length-replicate, getD-replicate, drop-of-length-le, List·getD-eq-default}
-use lib.Seq.{getD-take, getD-drop, getD-set-same, getD-set-other, ext-getD, take-at, drop-at, drop-drop}
+use lib.ListN.{length, getD, take, drop, set, replicate, length-append, length-drop, length-replicate, drop-of-length-le}
+use lib.Seq.{getD-take, getD-drop, length-take-le, take-all, take-at, drop-at, drop-cons, drop-drop}
 use borrow.Author.Tests.{lt-ltb, le-ltb, lt-leb, le-leb, eq-eqb, ne-eqb, not-true, not-false, leb-true}
 use Rattle.replies.specs.Replies.{refuses}
+use Rattle.runs.specs.Runs.{allZero}
 use Rattle.tables.specs.Check.{tableReply}
 use Rattle.meaning.specs.Form.{Form}
 use Rattle.blocks.specs.Layout.{kindsOf, jointsOf, blockForm, tabulate, freshBlock}
@@ -93,6 +92,19 @@ module _ {r : Bool} {f : ℕ → Bool} {i m : ℕ} (l : Checking r f i m) where
   unfolding all
   ends h = let e : m - i ≡ 0 = omega arith in l .is ∙ rw e
 
+-- the bytes from i on are zero: of the part that begins there, and of the block place by place
+zero-from : (b : List ℕ) (i count : ℕ) → length b ≡ i + count → allZero (drop i b) ≡ all (λ k. eqb (getD b k 0) 0) i count
+unfolding allZero all
+zero-from b i zero e = let h : length b ≤ i = omega arith in ap allZero (drop-of-length-le b h)
+zero-from b i (suc count) e =
+    ap allZero (drop-cons b i 0 (omega arith))
+    ∙ ap (λ (t : Bool). eqb (getD b i 0) 0 && t) (zero-from b (suc i) count (omega arith))
+
+pub zero-behind :
+    (b : List ℕ) (i count : ℕ) → length b ≡ i + count
+    → allZero (take (length b - i) (drop i b)) ≡ all (λ k. eqb (getD b k 0) 0) i count
+zero-behind b i count e = ap allZero (take-all (length b - i) (drop i b) (omega (arith, length-drop i b))) ∙ zero-from b i count e
+
 -- the clauses of a well-formed block, for the n and v that were read from it
 abbrev pub clauses : List ℕ → ℕ → ℕ → Bool
 clauses b n v =
@@ -109,30 +121,6 @@ by-clauses b {r} {n} {v} en ev a = a ∙ ap (λ (k : ℕ). clauses b k v) en ∙
 pub within : {low x high : ℕ} {t : Bool} → t ≡ (leb low x && leb x high) → not t ≡ false → (low ≤ x) × (x ≤ high)
 within {low} {x} {high} {t} e h =
     let a = and-eq-true-iff (leb low x) (leb x high) .0 (sym e ∙ not-false t h) in (leb-true low x (a .0), leb-true x high (a .1))
-
--- a loop at i that stores the m bytes of ys: xs has as many, and the same below i
-pub record Filling (ys : List ℕ) (m i : ℕ) (xs : List ℕ) : Type 0 where
-  pub wanted : length ys ≡ m
-  pub size : length xs ≡ m
-  pub same : (k : ℕ) → k < i → getD xs k 0 ≡ getD ys k 0
-
-pub none-stored : {ys : List ℕ} {m : ℕ} {xs : List ℕ} → length ys ≡ m → length xs ≡ m → Filling ys m 0 xs
-none-stored w e = record { wanted = w; size = e; same = λ k h. absurd (not-suc-le-zero h) }
-
-module _ {ys : List ℕ} {m i : ℕ} {xs : List ℕ} (l : Filling ys m i xs) where
-  pub stored : {x : ℕ} → i < m → x ≡ getD ys i 0 → Filling ys m (i + 1) (set xs i x)
-  stored {x} h e =
-      record {
-        wanted = l .wanted;
-        size = length-set xs i x ∙ l .size;
-        same = λ k g.
-            by-cases (ℕ-discrete k i)
-            (λ q. rw q (getD-set-same xs i x 0 (omega (arith, l .size)) ∙ e))
-            (λ d. getD-set-other xs i k x 0 d ∙ l .same k (omega arith));
-      }
-
-  pub all-stored : m ≤ i → xs ≡ ys
-  all-stored h = ext-getD 0 xs ys (l .size ∙ sym (l .wanted)) (λ k g. l .same k (omega (arith, l .size)))
 
 -- the classes and the kinds of a fresh block
 abbrev pub ownClasses : ℕ → List ℕ
@@ -163,24 +151,6 @@ tabulate-from f (suc count) i (suc k) h =
 pub tabulate-at : (f : ℕ → ℕ) (count k : ℕ) → k < count → f k ≡ getD (tabulate f 0 count) k 0
 tabulate-at f count k h = let e : k ≡ 0 + k = omega arith in ap f e ∙ tabulate-from f count 0 k h
 
-zeros-at : (m k : ℕ) → _≡_ {A = ℕ} 0 (getD (replicate m 0) k 0)
-zeros-at zero k = refl
-zeros-at (suc m) zero = refl
-zeros-at (suc m) (suc k) = zeros-at m k
-
--- zeros behind a list change no byte read with default 0
-pub padded-at : (xs : List ℕ) (m k : ℕ) → getD xs k 0 ≡ getD (xs ++ replicate m 0) k 0
-padded-at [] m k = zeros-at m k
-padded-at (x ∷ xs) m zero = refl
-padded-at (x ∷ xs) m (suc k) = padded-at xs m k
-
-pub repeated-at : (count m x k : ℕ) → cond (ltb k count) x 0 ≡ getD (replicate count x ++ replicate m 0) k 0
-repeated-at count m x k =
-    by-cases (decLt k count)
-    (λ h. rw (lt-ltb k count h) (sym (getD-replicate count k x 0 h)))
-    (λ h. rw (le-ltb k count (omega arith)) (sym (List·getD-eq-default (replicate count x) 0 (omega (arith, length-replicate count x)))))
-    ∙ padded-at (replicate count x) m k
-
 -- b is b₀ with the bytes of done, of which there are at, in front
 pub record Written (b₀ done : List ℕ) (at : ℕ) (b : List ℕ) : Type 0 where
   pub size : length done ≡ at
@@ -201,8 +171,26 @@ part-written {b₀} {done} {b} {at} w k {part} {ys} e h =
       is = rw (t, d, e, drop-drop) (sym (append-assoc done ys (drop (at + k) b₀)));
     }
 
+-- the front of a block is written
+pub front-written : (b₀ : List ℕ) {k : ℕ} {part ys : List ℕ} → part ≡ ys → length ys ≡ k → Written b₀ ys k (part ++ drop k b₀)
+front-written b₀ {k} e h = record { size = h; is = ap (λ (x : List ℕ). x ++ drop k b₀) e }
+
 pub all-written : {b₀ done b : List ℕ} {at : ℕ} → Written b₀ done at b → length b₀ ≤ at → b ≡ done
 all-written {b₀} {done} w h = w .is ∙ ap (λ (x : List ℕ). done ++ x) (drop-of-length-le b₀ h) ∙ append-nil done
+
+-- all that is behind what is done is written with zeros
+pub zeros-written :
+    {b₀ done b : List ℕ} {at m : ℕ} → Written b₀ done at b → length b₀ ≡ m → at ≤ m → {rest : List ℕ}
+    → rest ≡ replicate (length (take (length b - at) (drop at b))) 0
+    → take at b ++ (rest ++ drop (length b - at) (drop at b)) ≡ done ++ replicate (m - at) 0
+zeros-written {b₀} {done} {b} {at} {m} w size high e =
+    let whole : length b ≡ m =
+    ap length (w .is) ∙ length-append done (drop at b₀) ∙ omega (arith, w .size, length-drop at b₀) in
+    let count : length (take (length b - at) (drop at b)) ≡ m - at =
+    length-take-le (length b - at) (drop at b) (omega (arith, length-drop at b)) ∙ omega arith in
+    all-written
+    (part-written w (length b - at) (e ∙ ap (λ (k : ℕ). replicate k 0) count) (length-replicate (m - at) 0 ∙ omega arith))
+    (omega arith)
 
 regroup : (a b c d e : List ℕ) → ((a ++ b) ++ (c ++ d)) ++ e ≡ a ++ (b ++ (c ++ (d ++ e)))
 regroup a b c d e = simp append-assoc

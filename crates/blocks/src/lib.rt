@@ -141,12 +141,7 @@ fn rest_is_zero(block: &[u8], n: usize) -> bool
     requires { ⌜ (length (now block) ≡ 5250) × (n ≤ 64) ⌝ }
     ensures { λ r. ⌜ r ≡ all (λ i. eqb (getD (now (block .entry)) i 0) 0) (1154 + n * n) (4096 - n * n) ⌝ }
 {
-    for p in 1154 + n * n..5250 {
-        if block[p] != 0 {
-            return false;
-        }
-    }
-    true
+    runs::is_zero(&block[1154 + n * n..])
 }
 
 // Whether the block's table passes the check of tables.
@@ -200,16 +195,6 @@ fn or_zero(some: bool, x: u8) -> u8
     0
 }
 
-// Byte p of the table, or 0 where it has ended.
-fn table_byte(table: &[u8], p: usize) -> u8
-    ensures { λ r. ⌜ r ≡ getD (now (table .entry)) p 0 ⌝ }
-{
-    if table.len() <= p {
-        return 0;
-    }
-    table[p]
-}
-
 // The numbers of kinds and of joints.
 fn write_sizes(part: &mut [u8], n: u8, v: u8)
     requires { ⌜ length (now part) ≡ 2 ⌝ }
@@ -244,9 +229,8 @@ fn write_rows(part: &mut [u8], v: usize)
     requires { ⌜ (length (now part) ≡ 1024) × (v ≤ 64) ⌝ }
     ensures { λ _. ⌜ now (part .exit) ≡ replicate (16 * v) 255 ++ replicate (1024 - 16 * v) 0 ⌝ }
 {
-    for p in 0..1024 {
-        part[p] = or_zero(p < 16 * v, 255);
-    }
+    runs::repeat(&mut part[..16 * v], 255);
+    runs::repeat(&mut part[16 * v..], 0);
 }
 
 // The table, and zeros behind it.
@@ -254,9 +238,8 @@ fn write_table(part: &mut [u8], table: &[u8])
     requires { ⌜ (length (now part) ≡ 4096) × (length (now table) ≤ 4096) ⌝ }
     ensures { λ _. ⌜ now (part .exit) ≡ now (table .entry) ++ replicate (4096 - length (now (table .entry))) 0 ⌝ }
 {
-    for p in 0..4096 {
-        part[p] = table_byte(table, p);
-    }
+    runs::copy(&mut part[..table.len()], table);
+    runs::repeat(&mut part[table.len()..], 0);
 }
 
 // Writes the whole block as opening leaves it.

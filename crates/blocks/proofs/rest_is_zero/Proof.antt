@@ -1,63 +1,46 @@
--- `blocks::rest_is_zero` meets its contract. At p, the answer is that to the bytes from p on.
+-- `blocks::rest_is_zero` meets its contract: the part that is tested is the block behind its table.
 -- Assumes nothing.
-use mathlib.Core.Path.{sym}
-use Prim.Native.Nat.{_+_, _-_, _*_, _≤_}
+use mathlib.Core.Path.{_∙_}
+use Prim.Native.Nat.{_+_, _-_, _*_}
 use native.Mathlib.Omega.{arith}
-use lib.Dec.{eqb}
-use lib.ListN.{getD}
-use borrow.Author.Tests.{eq-eqb, ne-eqb}
 use Rattle.kinds.proofs.Offset.{square-le}
-use Rattle.blocks.specs.WellFormed.{all}
-use Rattle.blocks.proofs.Checks.{Checking, begins, passes, fails, ends}
+use Rattle.blocks.proofs.Checks.{zero-behind}
+use borrow.Author.Needs.{needs}
 use Rattle.blocks.proofs.rest_is_zero.Statement.{statement}
 use Rattle.blocks.proofs.rest_is_zero.Tie as tie
 
-abbrev Inv-loop : tie.InvT-loop
-Inv-loop block n p₀ p = (p ≤ 5250)
-    × Checking (all (λ i. eqb (getD block i 0) 0) (1154 + n * n) (4096 - n * n)) (λ i. eqb (getD block i 0) 0) p 5250
+mul-is-zero : tie.Need-mul-is-zero
+mul-is-zero c = omega (arith, square-le (c .before .pre .1))
 
-abbrev μ-loop : tie.MeasureT-loop
-μ-loop block n p₀ p = 5250 - p
+add-is-zero : tie.Need-add-is-zero
+add-is-zero c = omega (arith, square-le (c .before .pre .1))
 
-mul-p : tie.Need-mul-p Inv-loop μ-loop
-mul-p c = omega (arith, square-le (c .pre .1))
+sub-is-zero : tie.Need-sub-is-zero
+sub-is-zero c = omega (arith, c .before .pre .0, square-le (c .before .pre .1))
 
-add-p : tie.Need-add-p Inv-loop μ-loop
-add-p c = omega (arith, square-le (c .pre .1))
+part-is-zero-start : tie.Need-part-is-zero-start
+part-is-zero-start c = omega (arith, c .before .pre .0, square-le (c .before .pre .1))
 
-loop-holds : tie.Need-loop-holds Inv-loop μ-loop
-loop-holds c = let h = square-le (c .pre .1) in (omega arith, begins _ _ _ 5250 (omega arith))
+part-is-zero-end : tie.Need-part-is-zero-end
+part-is-zero-end c = search needs
 
-shared-slice-read-if1 : tie.Need-shared-slice-read-if1 Inv-loop μ-loop
-shared-slice-read-if1 c = omega arith
+is-zero-requires : tie.Need-is-zero-requires
+is-zero-requires c κs = search needs
 
-returns : tie.Need-returns Inv-loop μ-loop
-returns c = sym (fails (c .before .before .before .loop .inv .1) (omega arith) (ne-eqb _ _ (c .if1 .taken)))
-
-add-p-2 : tie.Need-add-p-2 Inv-loop μ-loop
-add-p-2 c = omega arith
-
-loop-less : tie.Need-loop-less Inv-loop μ-loop
-loop-less c = omega arith
-
-loop-again : tie.Need-loop-again Inv-loop μ-loop
-loop-again c = (omega arith, passes (c .before .before .before .loop .inv .1) (omega arith) (eq-eqb _ _ (c .if1 .left)))
-
-returns-2 : tie.Need-returns-2 Inv-loop μ-loop
-returns-2 c = sym (ends (c .before .loop .inv .1) (omega arith))
+returns : tie.Need-returns
+returns c = let s = c .before .before .before in
+    let n = s .args .n in
+    let h = square-le (s .pre .1) in
+    c .is-zero .ensures ∙ zero-behind (s .args .block .now) (1154 + n * n) (4096 - n * n) (omega (arith, s .pre .0))
 
 pub rest-is-zero-spec : {M : Type 1} → statement M
 rest-is-zero-spec =
     tie.close
     (tie.spec
-    Inv-loop
-    μ-loop
-    mul-p
-    add-p
-    loop-holds
-    shared-slice-read-if1
-    returns
-    add-p-2
-    loop-less
-    loop-again
-    returns-2)
+    mul-is-zero
+    add-is-zero
+    sub-is-zero
+    part-is-zero-start
+    part-is-zero-end
+    is-zero-requires
+    returns)

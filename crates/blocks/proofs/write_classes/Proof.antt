@@ -5,7 +5,8 @@ use mathlib.Core.Bool.{cond}
 use Prim.Native.Nat.{_-_, _≤_}
 use native.Mathlib.Omega.{arith}
 use lib.Dec.{ltb}
-use Rattle.blocks.proofs.Checks.{ownClasses, Filling, none-stored, stored, all-stored, tabulate-length, tabulate-at}
+use Rattle.runs.proofs.Loops.{Filling, none-stored, stored, all-stored}
+use Rattle.blocks.proofs.Checks.{ownClasses, tabulate-length, tabulate-at}
 use Rattle.blocks.proofs.write_classes.Statement.{statement}
 use Rattle.blocks.proofs.write_classes.Tie as tie
 

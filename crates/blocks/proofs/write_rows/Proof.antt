@@ -1,62 +1,69 @@
--- `blocks::write_rows` meets its contract. At p, the bytes below p are stored.
+-- `blocks::write_rows` meets its contract: the rows of the joints, then the rest.
 -- Assumes nothing.
-use mathlib.Core.Path.{_∙_, sym}
-use mathlib.Core.List.{_++_}
-use Prim.Native.Nat.{_-_, _*_, _≤_}
+use mathlib.Core.Path.{ap, sym, _∙_}
+use Prim.Native.Nat.{ℕ, _*_}
 use native.Mathlib.Omega.{arith}
-use lib.ListN.{replicate, length-append, length-replicate}
-use Rattle.blocks.proofs.Checks.{Filling, none-stored, stored, all-stored, repeated-at}
+use lib.ListN.{replicate, length-replicate}
+use lib.Seq.{length-take-le}
+use Rattle.blocks.proofs.Checks.{front-written, zeros-written}
+use borrow.Author.Needs.{needs}
 use Rattle.blocks.proofs.write_rows.Statement.{statement}
 use Rattle.blocks.proofs.write_rows.Tie as tie
 
-abbrev Inv-loop : tie.InvT-loop
-Inv-loop part₀ v p₀ part p = (p ≤ 1024) × Filling (replicate (16 * v) 255 ++ replicate (1024 - 16 * v) 0) 1024 p part
+mul-repeat : tie.Need-mul-repeat
+mul-repeat c = search needs
 
-abbrev μ-loop : tie.MeasureT-loop
-μ-loop part₀ v p₀ part p = 1024 - p
+slice-relend-prefix-repeat : tie.Need-slice-relend-prefix-repeat
+slice-relend-prefix-repeat c = search needs
 
-loop-holds : tie.Need-loop-holds Inv-loop μ-loop
-loop-holds c = (omega arith, none-stored (simp (length-append, length-replicate) (omega arith)) (c .before .pre .0))
+slice-aggregate-repeat : tie.Need-slice-aggregate-repeat
+slice-aggregate-repeat c = let s = c .before .before in
+    sym (length-take-le (16 * s .args .v) (s .args .part .now) (omega (arith, s .pre .0, s .pre .1)))
 
-mul-or-zero : tie.Need-mul-or-zero Inv-loop μ-loop
-mul-or-zero c = omega arith
+repeat-requires : tie.Need-repeat-requires
+repeat-requires c κs = search needs
 
-or-zero-requires : tie.Need-or-zero-requires Inv-loop μ-loop
-or-zero-requires c κs = tt
+mul-repeat-2 : tie.Need-mul-repeat-2
+mul-repeat-2 c = search needs
 
-slice-write-part : tie.Need-slice-write-part Inv-loop μ-loop
-slice-write-part c = omega (arith, c .before .before .loop .inv .1 .size)
+sub-repeat : tie.Need-sub-repeat
+sub-repeat c = search needs
 
-add-p : tie.Need-add-p Inv-loop μ-loop
-add-p c = omega arith
+part-repeat-start : tie.Need-part-repeat-start
+part-repeat-start c = search needs
 
-loop-less : tie.Need-loop-less Inv-loop μ-loop
-loop-less c = omega arith
+part-repeat-end : tie.Need-part-repeat-end
+part-repeat-end c = search needs
 
-loop-again : tie.Need-loop-again Inv-loop μ-loop
-loop-again c = let v = c .before .before .before .before .args .v in (
-  omega arith,
-  stored (c .before .before .loop .inv .1) (omega arith) (c .or-zero .ensures ∙ repeated-at (16 * v) (1024 - 16 * v) 255 _),
-)
+repeat-requires-2 : tie.Need-repeat-requires-2
+repeat-requires-2 c κs = search needs
 
-same-length : tie.Need-same-length Inv-loop μ-loop
-same-length c = c .before .loop .inv .1 .size ∙ sym (c .before .before .before .pre .0)
+same-length : tie.Need-same-length
+same-length c = search needs
 
-returns : tie.Need-returns Inv-loop μ-loop
-returns c = all-stored (c .before .loop .inv .1) (omega arith)
+returns : tie.Need-returns
+returns c = let rest = c .before .before in
+    let rows = rest .before .before .before .before in
+    let s = rows .before .before .before in
+    let v = s .args .v in
+    let part = s .args .part .now in
+    let size = length-take-le (16 * v) part (omega (arith, s .pre .0, s .pre .1)) in
+    let front =
+    front-written part (rows .repeat .ensures ∙ ap (λ (k : ℕ). replicate k 255) size) (length-replicate (16 * v) 255) in
+    zeros-written front (s .pre .0) (omega (arith, s .pre .1)) (rest .repeat2 .ensures)
 
 pub write-rows-spec : {M : Type 1} → statement M
 write-rows-spec =
     tie.close
     (tie.spec
-    Inv-loop
-    μ-loop
-    loop-holds
-    mul-or-zero
-    or-zero-requires
-    slice-write-part
-    add-p
-    loop-less
-    loop-again
+    mul-repeat
+    slice-relend-prefix-repeat
+    slice-aggregate-repeat
+    repeat-requires
+    mul-repeat-2
+    sub-repeat
+    part-repeat-start
+    part-repeat-end
+    repeat-requires-2
     same-length
     returns)

@@ -1,58 +1,57 @@
--- `blocks::write_table` meets its contract. At p, the bytes below p are stored.
+-- `blocks::write_table` meets its contract: the table, then the rest.
 -- Assumes nothing.
-use mathlib.Core.Path.{_∙_, sym}
-use mathlib.Core.List.{_++_}
-use Prim.Native.Nat.{_-_, _≤_}
+use mathlib.Core.Path.{refl, sym}
 use native.Mathlib.Omega.{arith}
-use lib.ListN.{length, replicate, length-append, length-replicate}
-use Rattle.blocks.proofs.Checks.{Filling, none-stored, stored, all-stored, padded-at}
+use lib.ListN.{length}
+use lib.Seq.{length-take-le}
+use Rattle.blocks.proofs.Checks.{front-written, zeros-written}
+use borrow.Author.Needs.{needs}
 use Rattle.blocks.proofs.write_table.Statement.{statement}
 use Rattle.blocks.proofs.write_table.Tie as tie
 
-abbrev Inv-loop : tie.InvT-loop
-Inv-loop part₀ table p₀ part p = (p ≤ 4096) × Filling (table ++ replicate (4096 - length table) 0) 4096 p part
+slice-relend-prefix-copy : tie.Need-slice-relend-prefix-copy
+slice-relend-prefix-copy c = search needs
 
-abbrev μ-loop : tie.MeasureT-loop
-μ-loop part₀ table p₀ part p = 4096 - p
+slice-aggregate-copy : tie.Need-slice-aggregate-copy
+slice-aggregate-copy c = let s = c .before .before .before in
+    sym (length-take-le (length (s .args .table .now)) (s .args .part .now) (omega (arith, s .pre .0, s .pre .1)))
 
-loop-holds : tie.Need-loop-holds Inv-loop μ-loop
-loop-holds c = (omega arith, none-stored (simp (length-append, length-replicate) (omega arith)) (c .before .before .pre .0))
+copy-requires : tie.Need-copy-requires
+copy-requires c κs = let s = c .before .before .before in
+    length-take-le (length (s .args .table .now)) (s .args .part .now) (omega (arith, s .pre .0, s .pre .1))
 
-table-byte-requires : tie.Need-table-byte-requires Inv-loop μ-loop
-table-byte-requires c κs = tt
+sub-repeat : tie.Need-sub-repeat
+sub-repeat c = search needs
 
-slice-write-part : tie.Need-slice-write-part Inv-loop μ-loop
-slice-write-part c = omega (arith, c .before .before .loop .inv .1 .size)
+part-repeat-start : tie.Need-part-repeat-start
+part-repeat-start c = search needs
 
-add-p : tie.Need-add-p Inv-loop μ-loop
-add-p c = omega arith
+part-repeat-end : tie.Need-part-repeat-end
+part-repeat-end c = search needs
 
-loop-less : tie.Need-loop-less Inv-loop μ-loop
-loop-less c = omega arith
+repeat-requires : tie.Need-repeat-requires
+repeat-requires c κs = search needs
 
-loop-again : tie.Need-loop-again Inv-loop μ-loop
-loop-again c = let t = c .before .before .before .before .before .args .table .now in (
-  omega arith,
-  stored (c .before .before .loop .inv .1) (omega arith) (c .table-byte .ensures ∙ padded-at t (4096 - length t) _),
-)
+same-length : tie.Need-same-length
+same-length c = search needs
 
-same-length : tie.Need-same-length Inv-loop μ-loop
-same-length c = c .before .loop .inv .1 .size ∙ sym (c .before .before .before .before .pre .0)
-
-returns : tie.Need-returns Inv-loop μ-loop
-returns c = all-stored (c .before .loop .inv .1) (omega arith)
+returns : tie.Need-returns
+returns c = let rest = c .before .before in
+    let table = rest .before .before .before .before in
+    let s = table .before .before .before .before in
+    let front = front-written (s .args .part .now) (table .copy .ensures) refl in
+    zeros-written front (s .pre .0) (s .pre .1) (rest .repeat .ensures)
 
 pub write-table-spec : {M : Type 1} → statement M
 write-table-spec =
     tie.close
     (tie.spec
-    Inv-loop
-    μ-loop
-    loop-holds
-    table-byte-requires
-    slice-write-part
-    add-p
-    loop-less
-    loop-again
+    slice-relend-prefix-copy
+    slice-aggregate-copy
+    copy-requires
+    sub-repeat
+    part-repeat-start
+    part-repeat-end
+    repeat-requires
     same-length
     returns)
