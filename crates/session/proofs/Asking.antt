@@ -7,7 +7,8 @@ use mathlib.Core.List.{List, [], _∷_, _++_, map}
 use Prim.Native.Nat.{ℕ, zero, suc, _+_, _*_, _/_, _%_, _<_, _≤_}
 use native.Mathlib.Omega.{arith}
 use native.Mathlib.Nat.{not-suc-le-zero, div-add-mod', mod-lt}
-use lib.ListN.{getD}
+use lib.ListN.{getD, length, take}
+use lib.Seq.{ext-getD, getD-take, length-take-le}
 use Rattle.replies.specs.declared.Reply.{Reply}
 use Rattle.replies.specs.declared.Reply.the-variants.{Done}
 use Rattle.replies.specs.Replies.{refuses, orElse}
@@ -134,6 +135,17 @@ answers-same f g a = (λ e. f (a .0 e), λ e y. a .1 e (g y))
 -- the places below count are the same
 abbrev pub SameFront : List ℕ → List ℕ → ℕ → Type 0
 SameFront xs ys count = (i : ℕ) → i < count → getD xs i 0 ≡ getD ys i 0
+
+-- which is to say that the first count places are one list
+module _ (xs ys : List ℕ) (count : ℕ) (a : count ≤ length xs) (b : count ≤ length ys) where
+  pub fronts-same : take count xs ≡ take count ys → SameFront xs ys count
+  fronts-same e i h = sym (getD-take count xs i 0 h) ∙ ap (λ (l : List ℕ). getD l i 0) e ∙ getD-take count ys i 0 h
+
+  pub same-fronts : SameFront xs ys count → take count xs ≡ take count ys
+  same-fronts f =
+      let n : length (take count xs) ≡ count = length-take-le count xs a in
+      ext-getD 0 (take count xs) (take count ys) (n ∙ sym (length-take-le count ys b))
+      (λ i h. let k : i < count = omega (arith, n) in getD-take count xs i 0 k ∙ f i k ∙ sym (getD-take count ys i 0 k))
 
 -- the rig's part of a form, list by list; a row of links is 16 places
 module _ (v : ℕ) (s t : Solved) where

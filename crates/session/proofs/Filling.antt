@@ -1,4 +1,4 @@
--- A loop that writes every place of a slice in turn, at its end; and parts of a block replaced one after the other.
+-- Parts of a block replaced, one after the other.
 -- Assumes nothing.
 use mathlib.Core.Path.{_≡_, refl, sym, _∙_, ap}
 use mathlib.Core.List.{List, [], _∷_, _++_, append-assoc}
@@ -6,19 +6,7 @@ use Prim.Native.Nat.{ℕ, _+_, _<_, _≤_}
 use native.Mathlib.Omega.{arith}
 use lib.ListN.{getD, length, take, drop, length-append, length-take, length-drop}
 use lib.Seq.{ext-getD, getD-take, length-take-le, take-at, drop-at, drop-drop}
-use Rattle.solver.proofs.Fill.{Filled}
 use Rattle.blocks.specs.Layout.{withForm}
-use Rattle.session.specs.Nodes.{Written}
-
-pub all-written : (f : ℕ → ℕ) (i : ℕ) (s t : List ℕ) → length s ≤ i → Filled f 0 i s t → Written f s t
-all-written f i s t e h = record { size = h .size; at = λ k b. h .done k (omega arith) (omega arith) }
-
--- where what is written are the first places of another list, the result is its front
-pub all-copied : (i : ℕ) (s t from : List ℕ) → length s ≤ i → length s ≤ length from → Filled (λ k. getD from k 0) 0 i s t → t ≡ take (length s) from
-all-copied i s t from e l h =
-    let n : length (take (length s) from) ≡ length s = length-take-le (length s) from l in
-    ext-getD 0 t (take (length s) from) (h .size ∙ sym n)
-    (λ k b. let c : k < length s = omega (arith, h .size) in h .done k (omega arith) (omega arith) ∙ sym (getD-take (length s) from k 0 c))
 
 -- xs with the count places from start replaced by ys
 abbrev pub splice : ℕ → ℕ → List ℕ → List ℕ → List ℕ
@@ -65,26 +53,37 @@ module _ (b x y z : List ℕ) (size : length b ≡ 5250) (hx : length x ≡ 64) 
 part-size : (start count : ℕ) (l : List ℕ) → start + count ≤ length l → length (take count (drop start l)) ≡ count
 part-size start count l h = simp (length-take, length-drop) (omega arith)
 
-splice-size : (start count : ℕ) (ys xs : List ℕ) → start + count ≤ length xs → length ys ≡ count → length (splice start count ys xs) ≡ length xs
+pub splice-size : (start count : ℕ) (ys xs : List ℕ) → start + count ≤ length xs → length ys ≡ count → length (splice start count ys xs) ≡ length xs
 splice-size start count ys xs h e = simp (length-append, length-take, length-drop) (omega arith)
 
--- the fronts of three lists put into a block, one after the other
-module _ (b x y z classes kinds rows : List ℕ) (size : length b ≡ 5250) (hc : 64 ≤ length classes) (hk : 64 ≤ length kinds) (hr : 1024 ≤ length rows) where
-  pub packed :
-      x ≡ take (length (take 64 (drop 2 b))) classes
-      → y ≡ take (length (take 64 (drop 66 (splice 2 64 x b)))) kinds
-      → z ≡ take (length (take 1024 (drop 130 (splice 66 64 y (splice 2 64 x b))))) rows
-      → splice 130 1024 z (splice 66 64 y (splice 2 64 x b)) ≡ withForm b classes kinds rows
-  packed ex ey ez =
-      let fx : x ≡ take 64 classes = ex ∙ ap (λ (n : ℕ). take n classes) (part-size 2 64 b (omega arith)) in
-      let lx : length x ≡ 64 = ap length fx ∙ length-take-le 64 classes hc in
-      let s₁ : length (splice 2 64 x b) ≡ 5250 = splice-size 2 64 x b (omega arith) lx ∙ size in
-      let fy : y ≡ take 64 kinds = ey ∙ ap (λ (n : ℕ). take n kinds) (part-size 66 64 (splice 2 64 x b) (omega arith)) in
-      let ly : length y ≡ 64 = ap length fy ∙ length-take-le 64 kinds hk in
-      let s₂ : length (splice 66 64 y (splice 2 64 x b)) ≡ 5250 = splice-size 66 64 y (splice 2 64 x b) (omega arith) ly ∙ s₁ in
-      let fz : z ≡ take 1024 rows = ez ∙ ap (λ (n : ℕ). take n rows) (part-size 130 1024 (splice 66 64 y (splice 2 64 x b)) (omega arith)) in
-      let lz : length z ≡ 1024 = ap length fz ∙ length-take-le 1024 rows hr in
-      three-parts b x y z size lx ly lz
-      ∙ ap (λ (l : List ℕ). take 2 b ++ (l ++ (y ++ (z ++ drop 1154 b)))) fx
-      ∙ ap (λ (l : List ℕ). take 2 b ++ (take 64 classes ++ (l ++ (z ++ drop 1154 b)))) fy
-      ∙ ap (λ (l : List ℕ). take 2 b ++ (take 64 classes ++ (take 64 kinds ++ (l ++ drop 1154 b)))) fz
+-- the fronts of three lists put into a block, one after the other: each part is as long as what is put there
+module _ (b classes : List ℕ) (size : length b ≡ 5250) (hc : length classes ≡ 96) where
+  pub first-part : length (take 64 (drop 2 b)) ≡ length (take 64 classes)
+  first-part = part-size 2 64 b (omega arith) ∙ sym (length-take-le 64 classes (omega arith))
+
+  module _ (x kinds : List ℕ) (hk : length kinds ≡ 96) (ex : x ≡ take 64 classes) where
+    x-size : length x ≡ 64
+    x-size = ap length ex ∙ length-take-le 64 classes (omega arith)
+
+    one : length (splice 2 64 x b) ≡ 5250
+    one = splice-size 2 64 x b (omega arith) x-size ∙ size
+
+    pub second-part : length (take 64 (drop 66 (splice 2 64 x b))) ≡ length (take 64 kinds)
+    second-part = part-size 66 64 (splice 2 64 x b) (omega (arith, one)) ∙ sym (length-take-le 64 kinds (omega arith))
+
+    module _ (y rows : List ℕ) (hr : length rows ≡ 1536) (ey : y ≡ take 64 kinds) where
+      y-size : length y ≡ 64
+      y-size = ap length ey ∙ length-take-le 64 kinds (omega arith)
+
+      both : length (splice 66 64 y (splice 2 64 x b)) ≡ 5250
+      both = splice-size 66 64 y (splice 2 64 x b) (omega (arith, one)) y-size ∙ one
+
+      pub third-part : length (take 1024 (drop 130 (splice 66 64 y (splice 2 64 x b)))) ≡ length (take 1024 rows)
+      third-part = part-size 130 1024 (splice 66 64 y (splice 2 64 x b)) (omega (arith, both)) ∙ sym (length-take-le 1024 rows (omega arith))
+
+      pub packed : (z : List ℕ) → z ≡ take 1024 rows → splice 130 1024 z (splice 66 64 y (splice 2 64 x b)) ≡ withForm b classes kinds rows
+      packed z ez =
+          three-parts b x y z size x-size y-size (ap length ez ∙ length-take-le 1024 rows (omega arith))
+          ∙ ap (λ (l : List ℕ). take 2 b ++ (l ++ (y ++ (z ++ drop 1154 b)))) ex
+          ∙ ap (λ (l : List ℕ). take 2 b ++ (take 64 classes ++ (l ++ (z ++ drop 1154 b)))) ey
+          ∙ ap (λ (l : List ℕ). take 2 b ++ (take 64 classes ++ (take 64 kinds ++ (l ++ drop 1154 b)))) ez

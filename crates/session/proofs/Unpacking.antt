@@ -1,64 +1,108 @@
--- The unpacked bytes are the block's form with free nodes behind its joints.
+-- Unpacking: two runs put into a list, one behind the other, and the three parts of a form.
 -- Assumes nothing.
 use mathlib.Core.Path.{_≡_, refl, sym, _∙_, ap}
 use mathlib.Core.Logic.{by-cases}
-use mathlib.Core.List.{List}
-use Prim.Native.Nat.{ℕ, _+_, _*_, _<_, _≤_}
+use mathlib.Core.List.{List, _++_}
+use Prim.Native.Nat.{ℕ, _+_, _-_, _*_, _<_, _≤_}
 use native.Mathlib.Omega.{arith}
 use native.Mathlib.Decide.{decLt}
-use lib.ListN.{getD, length, List·getD-eq-default}
-use borrow.Author.Tests.{lt-ltb, le-ltb}
+use lib.ListN.{getD, length, take, drop, replicate, length-append, length-take, length-drop, length-replicate, getD-replicate, List·getD-append, List·getD-eq-default}
+use lib.Seq.{getD-append-add, getD-take, getD-drop, length-take-le}
+use Rattle.solver.proofs.Fill.{Filled}
 use Rattle.meaning.specs.Asking.{Extends}
 use Rattle.meaning.specs.Form.{listForm}
 use Rattle.blocks.specs.Layout.{classesOf, jointKindsOf, rowsOf, blockForm}
-use Rattle.session.specs.Nodes.{nodeByte, numbered, Written}
+use Rattle.session.specs.Nodes.{Nodes}
+use Rattle.session.proofs.Filling.{splice, splice-size}
 
-module _ (part : List ℕ) (old all free : ℕ) where
-  byte-old : (at : ℕ) → at < old → nodeByte part old all free at ≡ getD part at 0
-  byte-old at h = rw (lt-ltb at old h)
+module _ (xs ys : List ℕ) where
+  left-at : {n : ℕ} → length xs ≡ n → (i : ℕ) → i < n → getD (xs ++ ys) i 0 ≡ getD xs i 0
+  left-at e i h = List·getD-append xs ys 0 i (omega arith)
 
-  byte-free : (at : ℕ) → old ≤ at → at < all → nodeByte part old all free at ≡ free
-  byte-free at a h = rw (le-ltb at old a, lt-ltb at all h)
+  right-at : {n : ℕ} → length xs ≡ n → (i : ℕ) → n ≤ i → getD (xs ++ ys) i 0 ≡ getD ys (i - n) 0
+  right-at {n} e i h = let q : i ≡ length xs + (i - n) = omega arith in ap (λ (k : ℕ). getD (xs ++ ys) k 0) q ∙ getD-append-add xs ys (i - n) 0
 
-  byte-rest : (at : ℕ) → old ≤ at → all ≤ at → nodeByte part old all free at ≡ 0
-  byte-rest at a h = rw (le-ltb at old a, le-ltb at all h)
+module _ (start count : ℕ) (ys xs : List ℕ) (fits : start + count ≤ length xs) (e : length ys ≡ count) where
+  front : length (take start xs) ≡ start
+  front = length-take-le start xs (omega arith)
 
-module _ {f : ℕ → ℕ} {s t : List ℕ} (w : Written f s t) where
-  -- what is written is f inside, and 0 outside
-  written : (size at : ℕ) {x : ℕ} → length s ≡ size → (at < size → f at ≡ x) → (size ≤ at → x ≡ 0) → getD t at 0 ≡ x
-  written size at e inside outside =
-      by-cases (decLt at size)
-      (λ h. w .at at (omega arith) ∙ inside h)
-      (λ d. List·getD-eq-default t 0 {n = at} (omega (arith, w .size)) ∙ sym (outside (omega arith)))
+  before-at : (i : ℕ) → i < start → getD (splice start count ys xs) i 0 ≡ getD xs i 0
+  before-at i h = left-at (take start xs) _ front i h ∙ getD-take start xs i 0 h
 
-module _ (b free-class class kind link zc zk zl : List ℕ) (v k : ℕ) (hv : v ≤ 64) (hk : k ≤ 32)
-    (sc : length zc ≡ 96) (sk : length zk ≡ 96) (sl : length zl ≡ 1536)
-    (wf : Written (nodeByte (classesOf b) v v 0) zc free-class)
-    (wc : Written (λ at. numbered v (v + k) (getD free-class at 0) at) free-class class)
-    (wk : Written (nodeByte (jointKindsOf b) v (v + k) 1) zk kind)
-    (wl : Written (nodeByte (rowsOf b) (16 * v) (16 * (v + k)) 255) zl link) where
-  fc : length free-class ≡ 96
-  fc = wf .size ∙ sc
+  inside-at : (i : ℕ) → start ≤ i → i < start + count → getD (splice start count ys xs) i 0 ≡ getD ys (i - start) 0
+  inside-at i a h = right-at (take start xs) _ front i a ∙ left-at ys _ e (i - start) (omega arith)
 
-  free-rest : (j : ℕ) → v ≤ j → getD free-class j 0 ≡ 0
-  free-rest j h = written wf 96 j sc (λ _. byte-rest (classesOf b) v v 0 j h h) (λ _. refl)
+  behind-at : (i : ℕ) → start + count ≤ i → getD (splice start count ys xs) i 0 ≡ getD xs i 0
+  behind-at i h =
+      let q : start + (count + (i - start - count)) ≡ i = omega arith in
+      right-at (take start xs) _ front i (omega arith)
+      ∙ right-at ys _ e (i - start) (omega arith)
+      ∙ getD-drop count (drop start xs) (i - start - count) 0
+      ∙ getD-drop start xs (count + (i - start - count)) 0
+      ∙ ap (λ (k : ℕ). getD xs k 0) q
 
+-- the first old places are another list's, those from there on below all one byte
+module _ (part s x y : List ℕ) (old all free : ℕ) (a : old ≤ all) (b : all ≤ length s) (c : old ≤ length part)
+    (ex : x ≡ take old part) (ey : y ≡ replicate (length (take (all - old) (drop old (x ++ drop old s)))) free) where
+  x-size : length x ≡ old
+  x-size = ap length ex ∙ length-take-le old part c
+
+  once : length (x ++ drop old s) ≡ length s
+  once = simp (length-append, length-drop) (omega (arith, x-size))
+
+  y-count : length (take (all - old) (drop old (x ++ drop old s))) ≡ all - old
+  y-count = length-take-le (all - old) (drop old (x ++ drop old s)) (simp length-drop (omega (arith, once)))
+
+  y-size : length y ≡ all - old
+  y-size = ap length ey ∙ length-replicate _ free ∙ y-count
+
+  fits : old + (all - old) ≤ length (x ++ drop old s)
+  fits = omega (arith, once)
+
+  pub two-runs : Nodes part old all (λ j. free) s (splice old (all - old) y (x ++ drop old s))
+  two-runs =
+      let inner = x ++ drop old s in
+      record {
+        size = splice-size old (all - old) y inner fits y-size ∙ once;
+        known = λ i h.
+            before-at old (all - old) y inner fits y-size i h
+            ∙ left-at x (drop old s) x-size i h
+            ∙ ap (λ (l : List ℕ). getD l i 0) ex
+            ∙ getD-take old part i 0 h;
+        new = λ i h k.
+            inside-at old (all - old) y inner fits y-size i h (omega arith)
+            ∙ ap (λ (l : List ℕ). getD l (i - old) 0) ey
+            ∙ getD-replicate (length (take (all - old) (drop old inner))) (i - old) free 0 (omega (arith, y-count));
+        rest = λ i h.
+            let q : old + (i - old) ≡ i = omega arith in
+            behind-at old (all - old) y inner fits y-size i (omega arith)
+            ∙ right-at x (drop old s) x-size i (omega arith)
+            ∙ getD-drop old s (i - old) 0
+            ∙ ap (λ (k : ℕ). getD s k 0) q;
+      }
+
+-- a loop that has written the places from old to all
+pub filled-nodes : {f : ℕ → ℕ} {old all : ℕ} {s t : List ℕ} → Filled f old all s t → Nodes s old all f s t
+filled-nodes h = record { size = h .size; known = h .below; new = h .done; rest = h .above }
+
+zeros : (n i : ℕ) → _≡_ {A = ℕ} (getD (replicate n 0) i 0) 0
+zeros n i = by-cases (decLt i n) (λ h. getD-replicate n i 0 0 h) (λ d. List·getD-eq-default (replicate n 0) 0 {n = i} (omega (arith, length-replicate {A = ℕ} n 0)))
+
+module _ (b free class kind link : List ℕ) (v k : ℕ)
+    (f : Nodes (classesOf b) v (v + k) (λ j. 0) (replicate 96 0) free)
+    (c : Nodes free v (v + k) (λ j. j) free class)
+    (s : Nodes (jointKindsOf b) v (v + k) (λ j. 1) (replicate 96 0) kind)
+    (l : Nodes (rowsOf b) (16 * v) (16 * (v + k)) (λ j. 255) (replicate 1536 0) link) where
   pub unpacked : Extends v k (blockForm b) (listForm class kind link)
   unpacked =
       record {
-        class-old = λ j h.
-            written wc 96 j fc
-            (λ i. rw (lt-ltb j v h) (written wf 96 j sc (λ _. byte-old (classesOf b) v v 0 j h) (λ z. absurd (omega arith))))
-            (λ z. absurd (omega arith));
-        class-new = λ j a h. written wc 96 j fc (λ i. rw (le-ltb j v a, lt-ltb j (v + k) h)) (λ z. absurd (omega arith));
-        class-rest = λ j h. written wc 96 j fc (λ i. rw (le-ltb j v (omega arith), le-ltb j (v + k) h) (free-rest j (omega arith))) (λ z. refl);
-        kind-old = λ j h. written wk 96 j sk (λ i. byte-old (jointKindsOf b) v (v + k) 1 j h) (λ z. absurd (omega arith));
-        kind-new = λ j a h. written wk 96 j sk (λ i. byte-free (jointKindsOf b) v (v + k) 1 j a h) (λ z. absurd (omega arith));
-        kind-rest = λ j h. written wk 96 j sk (λ i. byte-rest (jointKindsOf b) v (v + k) 1 j (omega arith) h) (λ z. refl);
-        link-old = λ j l h i.
-            written wl 1536 (j * 16 + l) sl (λ _. byte-old (rowsOf b) (16 * v) (16 * (v + k)) 255 (j * 16 + l) (omega arith)) (λ z. absurd (omega arith));
-        link-new = λ j l a h i.
-            written wl 1536 (j * 16 + l) sl (λ _. byte-free (rowsOf b) (16 * v) (16 * (v + k)) 255 (j * 16 + l) (omega arith) (omega arith)) (λ z. absurd (omega arith));
-        link-rest = λ j l h i.
-            written wl 1536 (j * 16 + l) sl (λ _. byte-rest (rowsOf b) (16 * v) (16 * (v + k)) 255 (j * 16 + l) (omega arith) (omega arith)) (λ z. refl);
+        class-old = λ j h. c .known j h ∙ f .known j h;
+        kind-old = s .known;
+        link-old = λ j x h i. l .known (j * 16 + x) (omega arith);
+        class-new = c .new;
+        kind-new = s .new;
+        link-new = λ j x a h i. l .new (j * 16 + x) (omega arith) (omega arith);
+        class-rest = λ j h. c .rest j h ∙ f .rest j h ∙ zeros 96 j;
+        kind-rest = λ j h. s .rest j h ∙ zeros 96 j;
+        link-rest = λ j x h i. l .rest (j * 16 + x) (omega arith) ∙ zeros 1536 (j * 16 + x);
       }

@@ -277,7 +277,5 @@ module _ (b out : List ℕ) where
 
 -- the front of the output is replaced by that of the array in which the form stands
 pub copied-out :
-    (form out : List ℕ) {s t x : List ℕ} {size : ℕ} → Put form 0 s t size → size ≤ length out → x ≡ take (length (take size out)) t →
-    x ++ drop size out ≡ form ++ drop size out
-copied-out form out {s} {t} {x} {size} p h e =
-    ap (λ (l : List ℕ). l ++ drop size out) (e ∙ ap (λ (k : ℕ). take k t) (length-take-le size out h) ∙ p .front)
+    (form out : List ℕ) {s t x : List ℕ} {size : ℕ} → Put form 0 s t size → x ≡ take size t → x ++ drop size out ≡ form ++ drop size out
+copied-out form out {s} {t} {x} {size} p e = ap (λ (l : List ℕ). l ++ drop size out) (e ∙ p .front)

@@ -117,12 +117,7 @@ fn same_front(a: &[u8], b: &[u8], count: usize) -> bool
     ensures { λ r. ⌜ (r ≡ true → (i : ℕ) → i < count → getD (now (a .entry)) i 0 ≡ getD (now (b .entry)) i 0)
         × (r ≡ false → ((i : ℕ) → i < count → getD (now (a .entry)) i 0 ≡ getD (now (b .entry)) i 0) → ⊥) ⌝ }
 {
-    for i in 0..count {
-        if a[i] != b[i] {
-            return false;
-        }
-    }
-    true
+    runs::same(&a[..count], &b[..count])
 }
 
 // Whether the end says nothing new of the rig's v joints.

@@ -145,6 +145,6 @@ pub fn write(block: &[u8], out: &mut [u8]) -> Reply
     if out.len() < size {
         return Reply::ShortOutput;
     }
-    crate::form::copy_front(&mut out[..size], &form);
+    runs::copy(&mut out[..size], &form[..size]);
     Reply::Done(size as u32)
 }

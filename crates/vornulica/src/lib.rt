@@ -48,6 +48,6 @@ pub extern "C" fn rig_house(table: &mut [u8]) -> u64
     if table.len() != 1089 {
         return replies::to_host(Reply::BadSize);
     }
-    session::form::copy_front(table, &house::table());
+    runs::copy(table, &house::table());
     replies::to_host(Reply::Done(0))
 }

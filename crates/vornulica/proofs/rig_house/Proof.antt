@@ -16,11 +16,11 @@ returns c = (c .to-host .ensures ∙ ap packed (sym (house-refused (c .before .b
 table-requires : tie.Need-table-requires
 table-requires c κs = search needs
 
-slice-aggregate-copy-front : tie.Need-slice-aggregate-copy-front
-slice-aggregate-copy-front c = search needs
+slice-aggregate-copy : tie.Need-slice-aggregate-copy
+slice-aggregate-copy c = search needs
 
-copy-front-requires : tie.Need-copy-front-requires
-copy-front-requires c κs = search needs
+copy-requires : tie.Need-copy-requires
+copy-requires c κs = search needs
 
 to-host-requires-2 : tie.Need-to-host-requires-2
 to-host-requires-2 c κs = search needs
@@ -31,7 +31,7 @@ same-length c = search needs
 returns-2 : tie.Need-returns-2
 returns-2 c = (
   c .to-host2 .ensures ∙ ap packed (sym (house-done (c .before .before .before .before .before .before .before .before .before .args .table .now) (c .before .before .before .before .before .before .before .if1 .left))),
-  c .before .before .before .copy-front .ensures ∙ house-written (c .before .before .before .before .before .before .before .before .before .args .table .now) _ (c .before .before .before .before .before .before .before .if1 .left) (c .before .before .before .before .before .table .ensures),
+  c .before .before .before .copy .ensures ∙ house-written (c .before .before .before .before .before .before .before .before .before .args .table .now) _ (c .before .before .before .before .before .before .before .if1 .left) (c .before .before .before .before .before .table .ensures),
 )
 
 pub rig-house-spec : {M : Type 1} → statement M
@@ -41,8 +41,8 @@ rig-house-spec =
     to-host-requires
     returns
     table-requires
-    slice-aggregate-copy-front
-    copy-front-requires
+    slice-aggregate-copy
+    copy-requires
     to-host-requires-2
     same-length
     returns-2)

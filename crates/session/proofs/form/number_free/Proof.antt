@@ -1,54 +1,47 @@
--- `session::form::number_free` meets its contract: the places before `at` are written, and the others are as they were.
+-- `session::form::number_free` meets its contract: the places from the first on are written, and the others are as they were.
 -- Assumes nothing.
-use mathlib.Core.Path.{_≡_, sym, _∙_, ap}
+use mathlib.Core.Path.{_≡_, refl}
+use Prim.Native.Nat.{_-_, _≤_}
 use native.Mathlib.Omega.{arith}
 use borrow.Author.Needs.{needs}
-use Prim.Native.Nat.{ℕ, _-_, _≤_}
-use lib.ListN.{length, getD}
-use Rattle.session.specs.Nodes.{numbered}
 use Rattle.solver.proofs.Fill.{Filled, filled-none, filled-set}
-use Rattle.session.proofs.Filling.{all-written}
+use Rattle.session.proofs.Unpacking.{filled-nodes}
 use Rattle.session.proofs.form.number_free.Statement.{statement}
 use Rattle.session.proofs.form.number_free.Tie as tie
 
 abbrev Inv-loop : tie.InvT-loop
-Inv-loop to₀ from all at₀ at-end to at = (at ≤ at-end) × (at-end ≡ length to₀) × Filled (λ i. numbered from all (getD to₀ i 0) i) 0 at to₀ to
+Inv-loop to₀ from all j₀ to j = (from ≤ j) × (j ≤ all) × Filled (λ i. i) from j to₀ to
 
 abbrev μ-loop : tie.MeasureT-loop
-μ-loop to₀ from all at₀ at-end to at = at-end - at
+μ-loop to₀ from all j₀ to j = all - j
 
 loop-holds : tie.Need-loop-holds Inv-loop μ-loop
-loop-holds c = (omega arith, search needs, filled-none _ _ _)
+loop-holds c = (omega arith, c .pre .0, filled-none _ _ _)
 
-slice-read-numbered-from : tie.Need-slice-read-numbered-from Inv-loop μ-loop
-slice-read-numbered-from c = let i = c .before .before .loop .inv in omega (arith, i .1, i .2 .size)
-
-numbered-from-requires : tie.Need-numbered-from-requires Inv-loop μ-loop
-numbered-from-requires c κs = let i = c .before .before .loop .inv in omega (arith, i .1, c .before .before .before .before .pre)
+cast-to : tie.Need-cast-to Inv-loop μ-loop
+cast-to c = omega arith
 
 slice-write-to : tie.Need-slice-write-to Inv-loop μ-loop
-slice-write-to c = let i = c .before .before .before .loop .inv in omega (arith, i .1, i .2 .size)
+slice-write-to c = omega arith
 
-add-at : tie.Need-add-at Inv-loop μ-loop
-add-at c = omega arith
+add-j : tie.Need-add-j Inv-loop μ-loop
+add-j c = omega arith
 
 loop-less : tie.Need-loop-less Inv-loop μ-loop
 loop-less c = omega arith
 
 loop-again : tie.Need-loop-again Inv-loop μ-loop
-loop-again c = let i = c .before .before .before .loop .inv in
-    let s = c .before .before .before .before .before .args in (
-      omega arith,
-      i .1,
-      filled-set _ _ _ _ _ _ (omega arith) (omega (arith, i .1))
-          (c .numbered-from .ensures ∙ ap (λ (x : ℕ). numbered (s .from) (s .all) x (c .before .before .before .loop .at)) (i .2 .above _ (omega arith))) (i .2),
-    )
+loop-again c = let i = c .before .loop .inv in
+    (omega arith, omega arith, filled-set _ _ _ _ _ _ (i .0) (omega arith) refl (i .2))
 
 same-length : tie.Need-same-length Inv-loop μ-loop
 same-length c = c .before .loop .inv .2 .size
 
 returns : tie.Need-returns Inv-loop μ-loop
-returns c = let i = c .before .loop .inv in all-written _ _ _ _ (omega (arith, i .1)) (i .2)
+returns c =
+    let l = c .before .loop in
+    let e : l .j ≡ c .before .before .args .all = omega (arith, l .inv .1) in
+    filled-nodes (rw e at (l .inv .2))
 
 pub number-free-spec : {M : Type 1} → statement M
 number-free-spec =
@@ -57,10 +50,9 @@ number-free-spec =
     Inv-loop
     μ-loop
     loop-holds
-    slice-read-numbered-from
-    numbered-from-requires
+    cast-to
     slice-write-to
-    add-at
+    add-j
     loop-less
     loop-again
     same-length

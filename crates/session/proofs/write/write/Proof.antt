@@ -3,7 +3,6 @@
 use mathlib.Core.Path.{refl, _∙_, sym}
 use Prim.Native.Nat.{_≤_}
 use native.Mathlib.Omega.{arith}
-use lib.ListN.{length-take}
 use lib.Seq.{length-take-le}
 use Rattle.replies.proofs.Laws.{tested}
 use Rattle.session.specs.Write.{solvedForm}
@@ -50,19 +49,24 @@ returns-2 c =
     let a = passed .before .before .before .before .before .args in
     write-short (a .block .now) (a .out .now) (good passed) (omega (arith, c .if2 .taken, formed .put-form .ensures .ends))
 
-slice-relend-prefix-copy-front : tie.Need-slice-relend-prefix-copy-front
-slice-relend-prefix-copy-front c = search needs
+slice-relend-prefix-copy : tie.Need-slice-relend-prefix-copy
+slice-relend-prefix-copy c = search needs
 
-slice-aggregate-copy-front : tie.Need-slice-aggregate-copy-front
-slice-aggregate-copy-front c = sym (length-take-le _ _ (c .before .if2 .left))
+slice-aggregate-copy : tie.Need-slice-aggregate-copy
+slice-aggregate-copy c = sym (length-take-le _ _ (c .before .if2 .left))
 
-slice-aggregate-copy-front-2 : tie.Need-slice-aggregate-copy-front-2
-slice-aggregate-copy-front-2 c = search needs
+array-share-prefix-form : tie.Need-array-share-prefix-form
+array-share-prefix-form c = let formed = c .before .before .before in omega (arith, formed .put-form .ensures .size, short formed)
 
-copy-front-requires : tie.Need-copy-front-requires
-copy-front-requires c κs =
+slice-aggregate-copy-2 : tie.Need-slice-aggregate-copy-2
+slice-aggregate-copy-2 c =
     let formed = c .before .before .before .before in
-    rw length-take (omega (arith, formed .put-form .ensures .size, short formed))
+    sym (length-take-le _ _ (omega (arith, formed .put-form .ensures .size, short formed)))
+
+copy-requires : tie.Need-copy-requires
+copy-requires c κs =
+    let formed = c .before .before .before .before in
+    length-take-le _ _ (c .before .before .if2 .left) ∙ sym (length-take-le _ _ (omega (arith, formed .put-form .ensures .size, short formed)))
 
 cast-t16 : tie.Need-cast-t16
 cast-t16 c = omega (arith, short (c .before .before .before .before .before .before .before))
@@ -79,7 +83,7 @@ returns-3 c =
     let a = passed .before .before .before .before .before .args in
     let p = formed .put-form .ensures in
     write-done (a .block .now) (a .out .now) (good passed) (omega (arith, p .ends)) (test .if2 .left)
-    (copied-out (solvedForm (a .block .now)) (a .out .now) p (test .if2 .left) (copied .copy-front .ensures))
+    (copied-out (solvedForm (a .block .now)) (a .out .now) p (copied .copy .ensures))
 
 pub write-spec : {M : Type 1} → statement M
 write-spec =
@@ -91,10 +95,11 @@ write-spec =
     slice-aggregate-put-form
     put-form-requires
     returns-2
-    slice-relend-prefix-copy-front
-    slice-aggregate-copy-front
-    slice-aggregate-copy-front-2
-    copy-front-requires
+    slice-relend-prefix-copy
+    slice-aggregate-copy
+    array-share-prefix-form
+    slice-aggregate-copy-2
+    copy-requires
     cast-t16
     same-length
     returns-3)
