@@ -1,10 +1,11 @@
--- What the program decides: how a run goes on from the bytes that state a packet's length, which call a packet is for, and the answer to it.
+-- What the program decides: how a run goes on from the bytes that state a packet's length, whether it goes on at all, which call a
+-- packet is for, and the answer to it.
 -- Assumes nothing.
 use mathlib.Core.Path.{_≡_}
 use mathlib.Core.Bool.{Bool, true, false, _&&_, cond}
 use mathlib.Core.List.{List}
 use Prim.Native.Nat.{ℕ, _+_, _*_}
-use lib.Dec.{eqb, ltb}
+use lib.Dec.{eqb, leb, ltb}
 use lib.ListN.{length, getD}
 use Rattle.replies.specs.declared.Reply.{Reply}
 use Rattle.session.specs.Take.{Take}
@@ -33,3 +34,10 @@ stepOf got head =
     (cond (ltb got 2) Cut
     (cond (ltb longest (256 * getD head 0 0 + getD head 1 0)) Long
     (Packet (256 * getD head 0 0 + getD head 1 0))))
+
+-- the run goes on only behind a whole packet: `cut` and `long` stop it
+abbrev pub goesOn : Step → ℕ → Bool
+goesOn End rest = false
+goesOn Cut rest = false
+goesOn Long rest = false
+goesOn (Packet size) rest = leb size rest

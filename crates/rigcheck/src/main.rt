@@ -1,8 +1,9 @@
 // Reads V as one byte, then packets, from standard input, and writes one line a call: a word, then number, place and third.
 // The kinds are the house kinds.
 ghost use mathlib.Core.Path.{_≡_};
-ghost use Prim.Native.Nat.{_<_};
-ghost use Rattle.rigcheck.specs.Answers.{isFacts, Answer, stepOf};
+ghost use Prim.Native.Nat.{ℕ, _<_};
+ghost use Rattle.rigcheck.specs.declared.Step.the-variants.{Packet};
+ghost use Rattle.rigcheck.specs.Answers.{isFacts, Answer, stepOf, goesOn};
 use replies::Reply;
 
 // How a run goes on from the two bytes of L.
@@ -38,6 +39,18 @@ fn next_step(got: usize, head: [u8; 2]) -> Step
         return Step::Long;
     }
     Step::Packet(size)
+}
+
+// Whether the run goes on, where `rest` bytes could be read behind L: only behind a whole packet.
+fn goes_on(step: Step, rest: usize) -> bool
+    ensures { λ r. ⌜ r ≡ goesOn step rest ⌝ }
+{
+    match step {
+        Step::End => false,
+        Step::Cut => false,
+        Step::Long => false,
+        Step::Packet(size) => size <= rest,
+    }
 }
 
 // Whether the packet is for taking; any other is for asking.
@@ -100,20 +113,39 @@ fn answer_front(block: &mut [u8], buffer: [u8; 4374], end: usize)
     answer_line(block, &buffer[..end]);
 }
 
-// Reads the rest of a packet behind its two bytes of L, which is not too long, and answers it. Whether the run goes on.
-fn rest_of_packet(block: &mut [u8], head: [u8; 2], size: usize) -> bool
+// Reads the rest of a packet behind its two bytes of L, which is not too long, and answers it where all of it could be read. The bytes read.
+fn rest_of_packet(block: &mut [u8], head: [u8; 2], size: usize) -> usize
     requires { ⌜ size < 4373 ⌝ }
 {
     let mut packet = [0u8; 4374];
     packet[0] = head[0];
     packet[1] = head[1];
     let end = size + 2;
-    if io::read_full(0, &mut packet[2..end]) < size {
-        write_line(b"cut", 5, 0, 0);
-        return false;
+    let rest = io::read_full(0, &mut packet[2..end]);
+    if rest < size {
+        write_reply(b"cut", Reply::BadLength);
+        return rest;
     }
     answer_front(block, packet, end);
-    true
+    rest
+}
+
+// Writes the line of a step that is no packet, or reads the packet and answers it. The bytes read behind L.
+fn act(block: &mut [u8], step: Step, head: [u8; 2]) -> usize
+    requires { ⌜ ((size : ℕ) → step ≡ Packet size → size < 4373) ⌝ }
+{
+    match step {
+        Step::End => 0,
+        Step::Cut => {
+            write_reply(b"cut", Reply::BadLength);
+            0
+        }
+        Step::Long => {
+            write_reply(b"long", Reply::BadLength);
+            0
+        }
+        Step::Packet(size) => rest_of_packet(block, head, size),
+    }
 }
 
 // One packet. Whether the run goes on.
@@ -121,18 +153,8 @@ fn next_packet(block: &mut [u8]) -> bool {
     let mut head = [0u8; 2];
     let got = io::read_full(0, &mut head);
     let step = next_step(got, head);
-    match step {
-        Step::End => false,
-        Step::Cut => {
-            write_line(b"cut", 5, 0, 0);
-            false
-        }
-        Step::Long => {
-            write_line(b"long", 5, 0, 0);
-            false
-        }
-        Step::Packet(size) => rest_of_packet(block, head, size),
-    }
+    let rest = act(block, step, head);
+    goes_on(step, rest)
 }
 
 // Every packet of the input; no input is so long that the count runs out.
