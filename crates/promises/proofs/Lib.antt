@@ -4,6 +4,8 @@ pub mod Later
 pub mod Demand1
 pub mod Demand2
 pub mod Demand3
+pub mod Forced
+pub mod KindNone
 pub mod OneResult
 pub mod OneForm
 pub mod SolvedForm
