@@ -1,11 +1,12 @@
 -- Taking a packet: what is left between the solver's answer and the contract of taking.
 -- Assumes nothing.
 use mathlib.Core.Path.{_≡_, refl, sym, _∙_, ap, subst}
-use mathlib.Core.Bool.{Bool, true, false}
+use mathlib.Core.Bool.{Bool, true, false, cond}
 use mathlib.Core.List.{List, map}
 use Prim.Native.Nat.{ℕ, _<_}
 use native.Mathlib.Omega.{arith}
 use lib.ListN.{length}
+use Rattle.replies.specs.declared.Reply.{Reply}
 use Rattle.replies.specs.declared.Reply.the-variants.{Done, Clash}
 use Rattle.replies.specs.Replies.{refuses, orElse}
 use Rattle.replies.proofs.Laws.{or-neither, or-second}
@@ -66,11 +67,11 @@ pub take-size : (b p : List ℕ) → refuses (takeRefusal b p) ≡ false → len
 unfolding takeRefusal
 take-size b p e = good-block b (or-neither (blockReply b) _ e .0) .size
 
-pub take-clashes : {b p : List ℕ} {clash : Bool} {joins : ℕ} {form : Solved} → takeRefusal b p ≡ Done 0 → Solves b p clash joins form → clash ≡ true → Take b p Clash b
-take-clashes d s e = clashes d (s .no-picture e) refl refl
-
-pub take-done :
-    {b p after : List ℕ} {clash : Bool} {joins : ℕ} {form : Solved}
-    → takeRefusal b p ≡ Done 0 → Solves b p clash joins form → clash ≡ false → after ≡ withSolved b form → Take b p (Done joins) after
-take-done {b} {p} {after} {clash} {joins} {form} d s e q =
-    subst (λ (a : List ℕ). Take b p (Done joins) a) (sym q) (done d (s .after e) (ap Done (s .count e)))
+-- what the solver makes of a packet is stored and told: a clash with nothing stored, or the joins with the form
+pub take-ends :
+    (clash : Bool) {b p after : List ℕ} {joins : ℕ} {form : Solved} {r : Reply}
+    → takeRefusal b p ≡ Done 0 → Solves b p clash joins form → after ≡ cond clash b (withSolved b form) → r ≡ cond clash Clash (Done joins)
+    → Take b p r after
+take-ends true d s q e = clashes d (s .no-picture refl) e q
+take-ends false {b} {p} {after} {joins} {form} {r} d s q e =
+    subst (λ (a : List ℕ). Take b p r a) (sym q) (done d (s .after refl) (e ∙ ap Done (s .count refl)))

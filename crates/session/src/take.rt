@@ -1,6 +1,8 @@
 // Taking a packet of facts: all of them or none.
 ghost use mathlib.Core.Path.{_≡_};
+ghost use mathlib.Core.Bool.{cond};
 ghost use mathlib.Core.List.{map};
+ghost use lib.ListN.{length};
 ghost use Rattle.kinds.specs.Kinds.{meetAt};
 ghost use Rattle.meaning.specs.Picture.{rename};
 ghost use Rattle.meaning.specs.Solving.{rigNumber};
@@ -9,7 +11,7 @@ ghost use Rattle.packets.specs.Facts.{rigFact, rigFacts};
 ghost use Rattle.replies.specs.declared.Reply.{Reply};
 ghost use Rattle.solver.specs.Unpacked.{formOf, nodeFact, Ready, Took};
 ghost use Rattle.session.specs.Take.{takeRefusal, Take};
-ghost use Rattle.session.specs.Solve.{Solves};
+ghost use Rattle.session.specs.Solve.{withSolved, Solves};
 use crate::block;
 use crate::form;
 use meaning::RigFact;
@@ -18,7 +20,7 @@ use solver::Next;
 use solver::NodeFact;
 use solver::Solved;
 
-// What the solver makes of a packet: the next form and the number of joins, or a clash.
+// What the solver makes of a packet: whether it clashes, the number of joins, and the form, which at a clash holds the facts before it.
 pub struct Outcome {
     pub clash: bool,
     pub joins: u32,
@@ -80,7 +82,7 @@ fn solve(block: &[u8], packet: &[u8]) -> Outcome
         return Outcome {
             clash: true,
             joins: 0,
-            form: start,
+            form: taken,
         };
     }
     let joins = solver::classes_in(start, v) - solver::classes_in(taken, v);
@@ -89,6 +91,27 @@ fn solve(block: &[u8], packet: &[u8]) -> Outcome
         joins: joins as u32,
         form: taken,
     }
+}
+
+// The form stored into the block; where the facts clash, nothing is.
+fn store(block: &mut [u8], form: Solved, clash: bool)
+    requires { ⌜ length (now block) ≡ 5250 ⌝ }
+    ensures { λ _. ⌜ now (block .exit) ≡ cond clash (now (block .entry)) (withSolved (now (block .entry)) form) ⌝ }
+{
+    if clash {
+        return;
+    }
+    form::pack(block, form);
+}
+
+// The reply where none of 1 to 9 fits.
+fn told(clash: bool, joins: u32) -> Reply
+    ensures { λ r. ⌜ r ≡ cond clash Reply.Clash (Reply.Done joins) ⌝ }
+{
+    if clash {
+        return Reply::Clash;
+    }
+    Reply::Done(joins)
 }
 
 // Takes all facts of the packet, or none.
@@ -101,10 +124,8 @@ pub fn take(block: &mut [u8], packet: &[u8]) -> Reply
         return reply;
     }
     let outcome = solve(block, packet);
-    if outcome.clash {
-        return Reply::Clash;
-    }
     let form = outcome.form;
-    form::pack(block, form);
-    Reply::Done(outcome.joins)
+    let clash = outcome.clash;
+    store(block, form, clash);
+    told(clash, outcome.joins)
 }

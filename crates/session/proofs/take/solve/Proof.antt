@@ -95,7 +95,7 @@ with-facts-requires c κs = let s = c .before .before .before .before .before .b
 
 returns : tie.Need-returns
 returns c = let w = c .before .before .before in
-    clash-outcome (good (w .before .before .before .before .before .before .before)) (w .before .before .unpack .result) (w .before .before .unpack .result) (w .before .before .unpack .ensures) 0
+    clash-outcome (good (w .before .before .before .before .before .before .before)) (w .before .before .unpack .result) (w .with-facts .result .form) (w .before .before .unpack .ensures) 0
     (solver-said w .refuted (not-true _ (c .if1 .taken)))
 
 classes-in-requires : tie.Need-classes-in-requires

@@ -1,12 +1,18 @@
--- `session::take::take` meets its contract: refused, a clash, or done with the next form in the block.
+-- `session::take::take` meets its contract: refused, or what the solver makes of the packet, stored and told.
 -- Assumes nothing.
-use mathlib.Core.Path.{refl}
+use mathlib.Core.Path.{_≡_, refl}
 use Rattle.replies.proofs.Laws.{tested}
+use Rattle.replies.specs.declared.Reply.the-variants.{Done}
+use Rattle.session.specs.Take.{takeRefusal}
 use Rattle.session.specs.Take.Take.{refused}
-use Rattle.session.proofs.Taking.{take-goes-on, take-size, take-clashes, take-done}
+use Rattle.session.proofs.Taking.{take-goes-on, take-size, take-ends}
 use borrow.Author.Needs.{needs}
 use Rattle.session.proofs.take.take.Statement.{statement}
 use Rattle.session.proofs.take.take.Tie as tie
+
+-- none of 1 to 9 fits
+goes-on : (c : tie.Else1) → let a = c .before .before .before .before .before .before .args in takeRefusal (a .block .now) (a .packet .now) ≡ Done 0
+goes-on c = take-goes-on _ _ (tested (c .before .before .refusal .ensures) (c .before .is-refusal .ensures) (c .if1 .left))
 
 refusal-requires : tie.Need-refusal-requires
 refusal-requires c κs = search needs
@@ -21,22 +27,24 @@ returns : tie.Need-returns
 returns c = refused (tested (c .before .before .refusal .ensures) (c .before .is-refusal .ensures) (c .if1 .taken)) (c .before .before .refusal .ensures) refl
 
 solve-requires : tie.Need-solve-requires
-solve-requires c κs = take-goes-on _ _ (tested (c .before .before .before .refusal .ensures) (c .before .before .is-refusal .ensures) (c .before .if1 .left))
+solve-requires c κs = goes-on (c .before)
+
+store-requires : tie.Need-store-requires
+store-requires c κs =
+    let e = c .before .before .before .before in
+    take-size _ _ (tested (e .before .before .refusal .ensures) (e .before .is-refusal .ensures) (e .if1 .left))
+
+told-requires : tie.Need-told-requires
+told-requires c κs = search needs
 
 same-length-2 : tie.Need-same-length-2
 same-length-2 c = search needs
 
 returns-2 : tie.Need-returns-2
-returns-2 c = take-clashes (take-goes-on _ _ (tested (c .before .before .before .before .before .refusal .ensures) (c .before .before .before .before .is-refusal .ensures) (c .before .before .before .if1 .left))) (c .before .solve .ensures) (c .if2 .taken)
-
-pack-requires : tie.Need-pack-requires
-pack-requires c κs = take-size _ _ (tested (c .before .before .before .before .before .before .before .refusal .ensures) (c .before .before .before .before .before .before .is-refusal .ensures) (c .before .before .before .before .before .if1 .left))
-
-same-length-3 : tie.Need-same-length-3
-same-length-3 c = search needs
-
-returns-3 : tie.Need-returns-3
-returns-3 c = take-done (take-goes-on _ _ (tested (c .before .before .before .before .before .before .before .before .before .before .refusal .ensures) (c .before .before .before .before .before .before .before .before .before .is-refusal .ensures) (c .before .before .before .before .before .before .before .before .if1 .left))) (c .before .before .before .before .before .before .solve .ensures) (c .before .before .before .before .before .if2 .left) (c .before .before .pack .ensures)
+returns-2 c =
+    let stored = c .before .before .before in
+    let solved = stored .before .before .before in
+    take-ends _ (goes-on (solved .before .before)) (solved .solve .ensures) (stored .store .ensures) (c .told .ensures)
 
 pub take-spec : {M : Type 1} → statement M
 take-spec =
@@ -47,8 +55,7 @@ take-spec =
     same-length
     returns
     solve-requires
+    store-requires
+    told-requires
     same-length-2
-    returns-2
-    pack-requires
-    same-length-3
-    returns-3)
+    returns-2)
