@@ -22,7 +22,7 @@ use Rattle.session.specs.Write.{solvedForm, writeReply, writtenOutput}
 use Rattle.session.proofs.Opening.{stays}
 use Rattle.house.specs.Meets.{houseTable}
 use Rattle.vornulica.specs.House.{houseReply, houseBuffer}
-use Rattle.promises.specs.Answers.{listed, gives, openNumbers, takeNumbers, askNumbers, writeNumbers}
+use Rattle.promises.specs.Answers.{listed, gives, openNumbers, takeNumbers, askNumbers, writeNumbers, houseNumbers}
 use Rattle.promises.proofs.Refusals.{listed-more, either, earlyNumbers, open-gives, block-gives, take-refusal-gives}
 use Rattle.promises.proofs.Refusals.{ask-refusal-gives}
 
@@ -56,6 +56,10 @@ write-answers b out =
     let whole = Done (length (solvedForm b)) in
     either writeNumbers (refuses (blockReply b)) (blockReply b) (cond fits whole ShortOutput)
     (block-gives writeNumbers refl refl refl b) (either writeNumbers fits whole ShortOutput refl refl)
+
+pub house-answers : (buffer : List ℕ) → gives houseNumbers (houseReply buffer) ≡ true
+unfolding listed
+house-answers buffer = either houseNumbers (eqb (length buffer) 1089) (Done 0) BadSize refl refl
 
 -- "A refused call changes no byte of the session or of an output buffer"; asking is lent both for reading alone
 pub refused-open : (n v : ℕ) (table b : List ℕ) → refuses (openReply n v table b) ≡ true → openBlock n v table b ≡ b

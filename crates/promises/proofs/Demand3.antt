@@ -9,9 +9,10 @@ use Prim.Native.Nat.{ℕ}
 use native.Mathlib.Omega.{arith}
 use Rattle.replies.specs.declared.Reply.{Reply}
 use Rattle.replies.specs.declared.Reply.the-variants.{Done, Clash}
-use Rattle.replies.specs.Replies.{refuses}
+use Rattle.replies.specs.Replies.{number, refuses}
 use Rattle.kinds.specs.Kinds.{meetAt}
 use Rattle.meaning.specs.declared.RigJoint.{RigJoint}
+use Rattle.meaning.specs.declared.Verdict.{Verdict}
 use Rattle.meaning.specs.declared.Verdict.the-variants as verdict
 use Rattle.meaning.specs.Picture.{Picture, Placing, All, SameMeaning, Every, Clash as NoPicture}
 use Rattle.meaning.specs.Rule.{verdictNumber}
@@ -27,7 +28,9 @@ use Rattle.session.specs.Take.{Take, takeRefusal}
 use Rattle.session.specs.Take.Take.{refused as take-refused, clashes, done}
 use Rattle.session.specs.Ask.{Ask}
 use Rattle.session.proofs.Asking.{ask-one}
+use Rattle.promises.specs.Answers.{Parts}
 use Rattle.promises.specs.Sessions.{Sent, Calls, Session, factsTaken, SameFacts}
+use Rattle.promises.proofs.Parts.{parts-exactly, number-clash}
 use Rattle.promises.proofs.Later.{verdict-stays, still-clashes}
 use Rattle.promises.proofs.Sessions.{moved, meaning-moved, session-good, session-opened, session-means, session-taken, same-kinds}
 use Rattle.promises.proofs.Sessions.{sent-goes-on, facts-hold, Moment, moment}
@@ -41,18 +44,27 @@ taken-since-opening {sent = sent} {b} s =
 
 -- "Within it, a rule that once applies or is ruled out in the sense of demand 2 gets that verdict at every later asking": whoever wrote the
 -- block of the first asking, whatever calls came between
-module _ {b c p : List ℕ} {sent : List Sent} {r : Reply} where
-  pub applies-stays : Ask b p (Done 1) → Calls b sent c → Ask c p r → r ≡ Done 1
-  applies-stays = verdict-stays verdict.Applies (λ e. omega (arith, ap verdictNumber e))
+module _ {b c p : List ℕ} {sent : List Sent} {first r : Reply} where
+  stays :
+      (x : Verdict) → x ≢ verdict.Waits → Ask b p first → Parts first 0 0 (verdictNumber x) → Calls b sent c → Ask c p r →
+      Parts r 0 0 (verdictNumber x)
+  stays x d a e calls later =
+      let told = parts-exactly first (Done (verdictNumber x)) .1 e in
+      parts-exactly r (Done (verdictNumber x)) .0 (verdict-stays x d (subst (λ (y : Reply). Ask b p y) told a) calls later)
 
-  pub ruled-out-stays : Ask b p (Done 2) → Calls b sent c → Ask c p r → r ≡ Done 2
-  ruled-out-stays = verdict-stays verdict.RuledOut (λ e. omega (arith, ap verdictNumber e))
+  pub applies-stays : Ask b p first → Parts first 0 0 1 → Calls b sent c → Ask c p r → Parts r 0 0 1
+  applies-stays = stays verdict.Applies (λ e. omega (arith, ap verdictNumber e))
+
+  pub ruled-out-stays : Ask b p first → Parts first 0 0 2 → Calls b sent c → Ask c p r → Parts r 0 0 2
+  ruled-out-stays = stays verdict.RuledOut (λ e. omega (arith, ap verdictNumber e))
 
 -- "and a packet refused for a clash is refused for a clash at every later sending", which changes nothing
 pub clash-stays :
-    {b c p after again : List ℕ} {sent : List Sent} {r : Reply} → Take b p Clash after → Calls b sent c → Take c p r again →
-    (r ≡ Clash) × (again ≡ c)
-clash-stays = still-clashes
+    {b c p after again : List ℕ} {sent : List Sent} {first r : Reply} → Take b p first after → number first ≡ 11 → Calls b sent c →
+    Take c p r again → Parts r 11 0 0 × (again ≡ c)
+clash-stays {b} {p = p} {after} {first = first} {r} take e calls later =
+    let still = still-clashes (subst (λ (x : Reply). Take b p x after) (number-clash first e) take) calls later in
+    (parts-exactly r Clash .0 (still .0), still .1)
 
 module _
     {n n' v : ℕ} {table b b' : List ℕ} {sent sent' : List Sent} (s : Session n v table sent b) (s' : Session n' v table sent' b')
@@ -114,5 +126,5 @@ module _
       by-taking (done d a q) = ap refuses q
 
   -- "If all packets sent are well formed and one rig satisfies all their facts, no order of sending has one refused for a clash."
-  pub no-clash : (t : Sent) → List·Memᴰ t sent → t .reply ≢ Clash
-  no-clash t in-sent e = true≢false (ap refuses (sym e) ∙ all-taken t in-sent)
+  pub no-clash : (t : Sent) → List·Memᴰ t sent → number (t .reply) ≢ 11
+  no-clash t in-sent e = true≢false (ap refuses (sym (number-clash (t .reply) e)) ∙ all-taken t in-sent)

@@ -33,6 +33,7 @@ use Rattle.session.specs.Ask.Ask.{judged}
 use Rattle.session.proofs.Blocks.{block-done}
 use Rattle.session.proofs.Asking.{ask-one, packet-decides}
 use Rattle.promises.specs.Examples.{Answers, rule6, rule7, rule8, rule9, rule10, rule11}
+use Rattle.promises.proofs.Parts.{parts-exactly}
 use Rattle.promises.proofs.ExampleBlock.{afterF, after-is, after-good, factsAfter}
 use Rattle.promises.proofs.ExampleTake.{houseMeet, of-after, rises, under-both}
 
@@ -109,7 +110,10 @@ reach6 s = two-joints (said6 s) refl zero-reached (by-link (List·Memᴰ·tail (
 answers :
     (p : List ℕ) {r : Rule} → Says p r → ReachReply r (Done 0) → (x : Verdict) →
     Judged {n = 33} houseMeet Every factsAfter r x → Answers afterF p x
-answers p {r} s reach x j reply = (λ a. ask-one a one, λ e. rw e one)
+answers p {r} s reach x j reply = (
+  λ a. parts-exactly reply (Done (verdictNumber x)) .0 (ask-one a one),
+  λ e. rw (parts-exactly reply (Done (verdictNumber x)) .1 e) one,
+)
   where
     done : askRefusal afterF p ≡ Done 0
     done = packet-decides afterF p (ap refuses (block-done after-good)) ∙ rw (after-is .kinds, after-is .joints) (s .fits)

@@ -7,7 +7,7 @@ use Prim.Native.Nat.{ℕ, _<_}
 use lib.Dec.{lit<}
 use Rattle.replies.specs.declared.Reply.{Reply}
 use Rattle.replies.specs.declared.Reply.the-variants.{Done, Clash}
-use Rattle.replies.specs.Replies.{refuses}
+use Rattle.replies.specs.Replies.{number, place, third, refuses}
 use Rattle.replies.proofs.Laws.{or-second}
 use Rattle.kinds.specs.Kinds.{Under, meetAt}
 use Rattle.kinds.proofs.Order.{under-trans, under-none, meet-greatest}
@@ -28,14 +28,19 @@ use Rattle.session.specs.Take.Take.{clashes, done}
 use Rattle.session.proofs.Blocks.{GoodBlock, block-done}
 use Rattle.session.proofs.OneTake.{take-one}
 use Rattle.promises.specs.Examples.{opened, factsF, fact12, Takes}
+use Rattle.promises.proofs.Parts.{parts-exactly}
 use Rattle.promises.proofs.ExampleBlock.{fresh-is, fresh-good, fresh-taken, fresh-count, afterF, after-is, after-good, factsAfter, after-taken, after-count}
 
 abbrev pub houseMeet : ℕ → ℕ → ℕ
 houseMeet = meetAt 33 houseTable
 
 -- the one result
-pub takes : {b p : List ℕ} {reply : Reply} {after : List ℕ} → Take b p reply after → Takes b p reply after
-takes {b} {p} t r x = (λ u. take-one u t, λ e. rw (e .0, e .1) t)
+pub takes :
+    {b p : List ℕ} (reply : Reply) {after : List ℕ} → Take b p reply after → Takes b p (number reply) (place reply) (third reply) after
+takes {b} {p} reply t r x = (
+  λ u. let e = take-one u t in (parts-exactly r reply .0 (e .0), e .1),
+  λ e. rw (parts-exactly r reply .1 (e .0), e .1) t,
+)
 
 -- a packet that is not refused for 33 kinds and 4 joints is not refused by a block of so many
 not-refused :
@@ -111,9 +116,9 @@ same-F : SameMeaning {n = 33} houseMeet Every factsAfter saidF
 same-F P σ _ placed = (to-said P σ, from-said P σ)
 
 -- P4: F is taken with 1 join
-pub takes-F : Takes opened factsF (Done 1) afterF
+pub takes-F : Takes opened factsF 0 0 1 afterF
 takes-F =
-    takes
+    takes (Done 1)
     (done (not-refused factsF fresh-good fresh-is factsF-fit)
     (record {
       size = after-is .size;
@@ -141,9 +146,9 @@ clash-12 P σ _ placed a =
     (under-both P e 23 3 0 (lit< tt) (lit< tt) refl forearm right))
 
 -- P12: then "2 has kind 3" clashes, and the block is unchanged
-pub takes-12 : Takes afterF fact12 Clash afterF
+pub takes-12 : Takes afterF fact12 11 0 0 afterF
 takes-12 =
-    takes
+    takes Clash
     (clashes (not-refused fact12 after-good after-is fact12-fits)
     (of-after (λ n t fs. NoPicture {n = n} (meetAt n t) Every (fs ++ rigFacts fact12)) (rw fact12-says clash-12))
     refl refl)

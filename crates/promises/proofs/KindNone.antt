@@ -6,7 +6,8 @@ use mathlib.Core.List.{List, _++_, List·Memᴰ}
 use Prim.Native.Nat.{ℕ, _<_}
 use native.Mathlib.Omega.{arith}
 use Rattle.replies.specs.declared.Reply.{Reply}
-use Rattle.replies.specs.declared.Reply.the-variants.{Done, Clash}
+use Rattle.replies.specs.declared.Reply.the-variants.{Done}
+use Rattle.replies.specs.Replies.{number}
 use Rattle.kinds.specs.Kinds.{Lawful, Under}
 use Rattle.kinds.proofs.Order.{under-none}
 use Rattle.meaning.specs.declared.RigJoint.{RigJoint}
@@ -22,6 +23,7 @@ use Rattle.session.specs.Block.{taken}
 use Rattle.session.specs.Take.{Take, takeRefusal}
 use Rattle.session.specs.Ask.{Ask, askRefusal}
 use Rattle.session.proofs.Blocks.{GoodBlock, call-goes-on}
+use Rattle.promises.specs.Answers.{Parts}
 use Rattle.promises.proofs.Demand2.{clash-exactly, ruled-out-exactly}
 
 module _ {n : ℕ} {meet : ℕ → ℕ → ℕ} (L : Lawful n meet) (two : 1 < n) where
@@ -39,7 +41,7 @@ module _ {n : ℕ} {meet : ℕ → ℕ → ℕ} (L : Lawful n meet) (two : 1 < n
 -- a packet that no reply from 1 to 9 refuses
 pub none-clashes :
     {b p after : List ℕ} {r : Reply} {a : RigJoint} → takeRefusal b p ≡ Done 0 → Take b p r after → List·Memᴰ (has-kind a 0) (rigFacts p) →
-    r ≡ Clash
+    number r ≡ 11
 unfolding takeRefusal
 none-clashes {b} {p} well take m =
     let g : GoodBlock b = call-goes-on b _ well .0 in
@@ -48,7 +50,7 @@ none-clashes {b} {p} well take m =
 -- a rule that no reply from 1 to 10 refuses
 pub none-ruled-out :
     {b p : List ℕ} {r : Reply} {u : RuleJoint} → askRefusal b p ≡ Done 0 → ReachReply (ruleOf p) (Done 0) → Ask b p r →
-    List·Memᴰ (has-kind u 0) (ruleOf p .facts) → r ≡ Done 2
+    List·Memᴰ (has-kind u 0) (ruleOf p .facts) → Parts r 0 0 2
 unfolding askRefusal
 none-ruled-out {b} {p} well reached ask m =
     let g : GoodBlock b = call-goes-on b _ well .0 in

@@ -1,3 +1,5 @@
+pub mod Parts
+pub mod HostNumbers
 pub mod Sessions
 pub mod Refusals
 pub mod Later

@@ -1,18 +1,30 @@
--- One result for the inner functions whose contracts are no equations: the unpacked form, and the form after a fact. Both are fixed at
--- every node, and the code's arrays hold no more than that.
+-- One result for the inner functions whose contracts are no equations: the test of two runs, the unpacked form, and what becomes of a form
+-- with a fact. Both forms are fixed at every node, and the code's arrays hold no more than that.
 -- Assumes nothing.
-use mathlib.Core.Path.{_≡_, sym, _∙_}
+use mathlib.Core.Path.{_≡_, refl, sym, _∙_}
 use mathlib.Core.Logic.{by-cases}
-use mathlib.Core.List.{List}
+use mathlib.Core.Bool.{Bool, true, false, false≢true}
+use mathlib.Core.List.{List, [], _∷_}
 use Prim.Native.Nat.{ℕ, _+_, _<_, _≤_}
 use native.Mathlib.Omega.{arith}
 use native.Mathlib.Decide.{decLt}
-use Rattle.kinds.specs.Kinds.{Lawful}
+use Rattle.kinds.specs.Kinds.{Lawful, meetAt}
 use Rattle.meaning.specs.Picture.{Fact}
+use Rattle.meaning.specs.Picture.Fact.{has-kind, same, leads}
 use Rattle.meaning.specs.Form.{Form}
-use Rattle.meaning.specs.Solving.{Taken}
+use Rattle.meaning.specs.Solving.{Taken, InRange}
 use Rattle.meaning.specs.Asking.{Extends}
 use Rattle.meaning.proofs.Unique.{SameForm, taken-one}
+use Rattle.meaning.proofs.Takes.{taken-not-refuted}
+use Rattle.solver.specs.Unpacked.{Ready, Took}
+
+-- what `runs::same` allows
+pub same-one :
+    {a b : List ℕ} (r s : Bool) → (r ≡ true → a ≡ b) × (r ≡ false → a ≡ b → ⊥) → (s ≡ true → a ≡ b) × (s ≡ false → a ≡ b → ⊥) → r ≡ s
+same-one true true x y = refl
+same-one true false x y = absurd (y .1 refl (x .0 refl))
+same-one false true x y = absurd (x .1 refl (y .0 refl))
+same-one false false x y = refl
 
 -- what `form::unpack` allows
 pub unpack-one : {v k : ℕ} {S E F : Form} → Extends v k S E → Extends v k S F → SameForm E F
@@ -37,3 +49,18 @@ pub with-fact-one :
     {n v : ℕ} {meet : ℕ → ℕ → ℕ} {S T U : Form} {fs : List (Fact ℕ)} → Lawful n meet → 0 < v → Taken n meet v S fs T → Taken n meet v S fs U
     → SameForm T U
 with-fact-one L pos t u = taken-one L pos t u
+
+some-node : (n v : ℕ) (f : Fact ℕ) → InRange n v f → 0 < v
+some-node n v (has-kind a s) h = omega (arith, h .0)
+some-node n v (same a b) h = omega (arith, h .0)
+some-node n v (leads a l c) h = omega (arith, h .0)
+
+-- what it allows, taken or not, wherever it may be called: one flag, and one form where the flag is true
+module _ {n v : ℕ} {table : List ℕ} {S : Form} (f : Fact ℕ) (ready : Ready n v table S) (in-range : InRange n v f) where
+  pub next-one :
+      {T U : Form} (ok ok' : Bool) → Took n (meetAt n table) v S (f ∷ []) ok T → Took n (meetAt n table) v S (f ∷ []) ok' U →
+      (ok ≡ ok') × (ok ≡ true → SameForm T U)
+  next-one true true t u = (refl, λ e. with-fact-one (ready .lawful) (some-node n v f in-range) (t .taken refl) (u .taken refl))
+  next-one true false t u = absurd (taken-not-refuted (ready .lawful) (some-node n v f in-range) (t .taken refl) (u .refuted refl))
+  next-one false true t u = absurd (taken-not-refuted (ready .lawful) (some-node n v f in-range) (u .taken refl) (t .refuted refl))
+  next-one false false t u = (refl, λ e. absurd (false≢true e))

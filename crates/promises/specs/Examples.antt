@@ -3,11 +3,10 @@
 -- Assumes nothing.
 use mathlib.Core.Path.{_≡_}
 use mathlib.Core.Logic.{_↔_}
-use mathlib.Core.List.{List, [], _∷_}
-use Prim.Native.Nat.{ℕ}
-use lib.ListN.{length}
+use mathlib.Core.List.{List, [], _∷_, _++_}
+use Prim.Native.Nat.{ℕ, _≤_}
+use lib.ListN.{length, drop}
 use Rattle.replies.specs.declared.Reply.{Reply}
-use Rattle.replies.specs.declared.Reply.the-variants.{Done, Clash}
 use Rattle.kinds.specs.Kinds.{meetAt}
 use Rattle.house.specs.Meets.{houseTable}
 use Rattle.meaning.specs.declared.Verdict.{Verdict}
@@ -17,7 +16,8 @@ use Rattle.blocks.specs.Layout.{blockSize, freshBlock}
 use Rattle.session.specs.Open.{openReply, openBlock}
 use Rattle.session.specs.Take.{Take}
 use Rattle.session.specs.Ask.{Ask}
-use Rattle.session.specs.Write.{solvedForm}
+use Rattle.session.specs.Write.{solvedForm, writeReply, writtenOutput}
+use Rattle.promises.specs.Answers.{Parts}
 
 -- the facts F
 unfoldable pub factsF : List ℕ
@@ -119,13 +119,13 @@ fact12 =
     ∷ 1 ∷ 2 ∷ 3 ∷ 0
     ∷ []
 
--- taking the packet gives this reply, and this block afterwards: the contract allows them, and no others
-abbrev pub Takes : List ℕ → List ℕ → Reply → List ℕ → Type 0
-Takes b p reply after = (r : Reply) (x : List ℕ) → Take b p r x ↔ ((r ≡ reply) × (x ≡ after))
+-- taking the packet gives this number, place and third number, and this block afterwards: the contract allows them, and no others
+abbrev pub Takes : List ℕ → List ℕ → ℕ → ℕ → ℕ → List ℕ → Type 0
+Takes b p number place third after = (r : Reply) (x : List ℕ) → Take b p r x ↔ (Parts r number place third × (x ≡ after))
 
 -- asking the packet gives this verdict: the contract allows it, and no other reply
 abbrev pub Answers : List ℕ → List ℕ → Verdict → Type 0
-Answers b p verdict = (r : Reply) → Ask b p r ↔ (r ≡ Done (verdictNumber verdict))
+Answers b p verdict = (r : Reply) → Ask b p r ↔ Parts r 0 0 (verdictNumber verdict)
 
 -- the block that opening writes
 abbrev pub opened : List ℕ
@@ -133,16 +133,18 @@ opened = freshBlock 33 4 houseTable
 
 pub record Examples : Type 0 where
   -- whatever the block's bytes were, opening it gives `opened`
-  pub opens : (b : List ℕ) → length b ≡ blockSize → (openReply 33 4 houseTable b ≡ Done 0) × (openBlock 33 4 houseTable b ≡ opened)
+  pub opens : (b : List ℕ) → length b ≡ blockSize → Parts (openReply 33 4 houseTable b) 0 0 0 × (openBlock 33 4 houseTable b ≡ opened)
   pub p1 : meetAt 33 houseTable 2 9 ≡ 11
   pub p2 : meetAt 33 houseTable 3 17 ≡ 26
   pub p3 : meetAt 33 houseTable 11 18 ≡ 0
   -- the block after F
   pub after : List ℕ
   -- F is taken with 1 join
-  pub p4 : Takes opened factsF (Done 1) after
-  -- its solved form
+  pub p4 : Takes opened factsF 0 0 1 after
+  -- its solved form, and the call that writes its 22 bytes to any output which has room for them
   pub p5 : solvedForm after ≡ solvedF
+  pub p5-written :
+      (out : List ℕ) → 22 ≤ length out → Parts (writeReply after out) 0 0 22 × (writtenOutput after out ≡ solvedF ++ drop 22 out)
   -- the verdicts on the rules, after F
   pub p6 : Answers after rule6 Applies
   pub p7 : Answers after rule7 RuledOut
@@ -151,4 +153,4 @@ pub record Examples : Type 0 where
   pub p10 : Answers after rule10 Applies
   pub p11 : Answers after rule11 Waits
   -- F, then "2 has kind 3": 11, block unchanged
-  pub p12 : Takes after fact12 Clash after
+  pub p12 : Takes after fact12 11 0 0 after
