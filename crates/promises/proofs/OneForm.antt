@@ -1,13 +1,16 @@
 -- One result for the inner functions whose contracts are no equations: the test of two runs, the unpacked form, and what becomes of a form
--- with a fact. Both forms are fixed at every node, and the code's arrays hold no more than that.
+-- with a fact. Both forms are fixed at every node, and with them the bytes of the code's three arrays.
 -- Assumes nothing.
 use mathlib.Core.Path.{_≡_, refl, sym, _∙_}
 use mathlib.Core.Logic.{by-cases}
 use mathlib.Core.Bool.{Bool, true, false, false≢true}
 use mathlib.Core.List.{List, [], _∷_}
-use Prim.Native.Nat.{ℕ, _+_, _<_, _≤_}
+use Prim.Native.Nat.{ℕ, _+_, _*_, _/_, _%_, _<_, _≤_}
 use native.Mathlib.Omega.{arith}
 use native.Mathlib.Decide.{decLt}
+use native.Mathlib.Nat.{div-add-mod', mod-lt}
+use lib.ListN.{length}
+use lib.Seq.{ext-getD}
 use Rattle.kinds.specs.Kinds.{Lawful, meetAt}
 use Rattle.meaning.specs.Picture.{Fact}
 use Rattle.meaning.specs.Picture.Fact.{has-kind, same, leads}
@@ -16,7 +19,8 @@ use Rattle.meaning.specs.Solving.{Taken, InRange}
 use Rattle.meaning.specs.Asking.{Extends}
 use Rattle.meaning.proofs.Unique.{SameForm, taken-one}
 use Rattle.meaning.proofs.Takes.{taken-not-refuted}
-use Rattle.solver.specs.Unpacked.{Ready, Took}
+use Rattle.solver.specs.declared.Solved.{Solved}
+use Rattle.solver.specs.Unpacked.{formOf, Ready, Took}
 
 -- what `runs::same` allows
 pub same-one :
@@ -25,6 +29,17 @@ same-one true true x y = refl
 same-one true false x y = absurd (y .1 refl (x .0 refl))
 same-one false true x y = absurd (x .1 refl (y .0 refl))
 same-one false false x y = refl
+
+-- two unpacked forms that are one form are the same bytes; the sizes are those of the arrays' types
+pub arrays-one :
+    (s t : Solved) → length (s .class) ≡ length (t .class) → length (s .kind) ≡ length (t .kind) → length (s .link) ≡ length (t .link)
+    → SameForm (formOf s) (formOf t) → (s .class ≡ t .class) × (s .kind ≡ t .kind) × (s .link ≡ t .link)
+arrays-one s t c k l e = (
+  ext-getD 0 (s .class) (t .class) c (λ j _. e .class j),
+  ext-getD 0 (s .kind) (t .kind) k (λ j _. e .kind j),
+  ext-getD 0 (s .link) (t .link) l
+      (λ p _. let q : p / 16 * 16 + p % 16 ≡ p = div-add-mod' p 16 in rw q at (e .link (p / 16) (p % 16) (mod-lt p (omega arith)))),
+)
 
 -- what `form::unpack` allows
 pub unpack-one : {v k : ℕ} {S E F : Form} → Extends v k S E → Extends v k S F → SameForm E F
