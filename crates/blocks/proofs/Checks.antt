@@ -16,7 +16,8 @@ use Rattle.replies.specs.Replies.{refuses}
 use Rattle.runs.specs.Runs.{allZero}
 use Rattle.tables.specs.Check.{tableReply}
 use Rattle.meaning.specs.Form.{Form}
-use Rattle.blocks.specs.Layout.{kindsOf, jointsOf, blockForm, tabulate, freshBlock}
+use Rattle.runs.specs.Runs.{each}
+use Rattle.blocks.specs.Layout.{kindsOf, jointsOf, blockForm, freshBlock}
 use Rattle.blocks.specs.WellFormed.{all, smallest, classFits, kindFits, linkFits, jointFits, wellFormed}
 
 -- byte i of a part of a block is the byte that stands there in the block
@@ -124,10 +125,10 @@ within {low} {x} {high} {t} e h =
 
 -- the classes and the kinds of a fresh block
 abbrev pub ownClasses : ℕ → List ℕ
-ownClasses v = tabulate (λ j. cond (ltb j v) j 0) 0 64
+ownClasses v = each (λ j. cond (ltb j v) j 0) 0 64
 
 abbrev pub anyKinds : ℕ → List ℕ
-anyKinds v = tabulate (λ j. cond (ltb j v) 1 0) 0 64
+anyKinds v = each (λ j. cond (ltb j v) 1 0) 0 64
 
 -- the parts of a fresh block, by their bytes
 pub both-set : (xs : List ℕ) (n v : ℕ) → length xs ≡ 2 → set (set xs 0 n) 1 v ≡ n ∷ v ∷ []
@@ -136,20 +137,20 @@ both-set (x ∷ []) n v e = absurd (omega arith)
 both-set (x ∷ y ∷ []) n v e = refl
 both-set (x ∷ y ∷ z ∷ xs) n v e = absurd (omega arith)
 
-pub tabulate-length : (f : ℕ → ℕ) (i count : ℕ) → length (tabulate f i count) ≡ count
-unfolding tabulate
-tabulate-length f i zero = refl
-tabulate-length f i (suc count) = ap suc (tabulate-length f (suc i) count)
+pub each-length : (f : ℕ → ℕ) (i count : ℕ) → length (each f i count) ≡ count
+unfolding each
+each-length f i zero = refl
+each-length f i (suc count) = ap suc (each-length f (suc i) count)
 
-tabulate-from : (f : ℕ → ℕ) (count i k : ℕ) → k < count → f (i + k) ≡ getD (tabulate f i count) k 0
-unfolding tabulate
-tabulate-from f zero i k h = absurd (not-suc-le-zero h)
-tabulate-from f (suc count) i zero h = ap f (add-zero i)
-tabulate-from f (suc count) i (suc k) h =
-    let e : i + suc k ≡ suc i + k = omega arith in ap f e ∙ tabulate-from f count (suc i) k (le-of-suc-le-suc h)
+each-from : (f : ℕ → ℕ) (count i k : ℕ) → k < count → f (i + k) ≡ getD (each f i count) k 0
+unfolding each
+each-from f zero i k h = absurd (not-suc-le-zero h)
+each-from f (suc count) i zero h = ap f (add-zero i)
+each-from f (suc count) i (suc k) h =
+    let e : i + suc k ≡ suc i + k = omega arith in ap f e ∙ each-from f count (suc i) k (le-of-suc-le-suc h)
 
-pub tabulate-at : (f : ℕ → ℕ) (count k : ℕ) → k < count → f k ≡ getD (tabulate f 0 count) k 0
-tabulate-at f count k h = let e : k ≡ 0 + k = omega arith in ap f e ∙ tabulate-from f count 0 k h
+pub each-at : (f : ℕ → ℕ) (count k : ℕ) → k < count → f k ≡ getD (each f 0 count) k 0
+each-at f count k h = let e : k ≡ 0 + k = omega arith in ap f e ∙ each-from f count 0 k h
 
 -- b is b₀ with the bytes of done, of which there are at, in front
 pub record Written (b₀ done : List ℕ) (at : ℕ) (b : List ℕ) : Type 0 where

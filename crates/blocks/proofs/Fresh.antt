@@ -17,7 +17,8 @@ use Rattle.replies.specs.declared.Reply.the-variants.{Done}
 use Rattle.tables.specs.Check.{Sized, tableReply}
 use Rattle.meaning.specs.Picture.{rename}
 use Rattle.meaning.specs.Form.{Form, unknown, Smallest, Well, linksFrom, factsAt, factsFrom, rigJoint, takenFacts, classes}
-use Rattle.blocks.specs.Layout.{blockForm, tabulate, freshBlock}
+use Rattle.runs.specs.Runs.{each}
+use Rattle.blocks.specs.Layout.{blockForm, freshBlock}
 use Rattle.blocks.proofs.Shape.{WellBlock, block-ends}
 use Rattle.blocks.proofs.Bytes.{Joined, joined, Opened, byte-from}
 
@@ -73,20 +74,20 @@ module _ {v : ℕ} {S : Form} (b : Blank v S) where
   blank-classes = own-class v (omega arith)
 
 -- a list of values by their places, and a list that zeros follow
-tabulate-length : (f : ℕ → ℕ) (i count : ℕ) → length (tabulate f i count) ≡ count
-unfolding tabulate
-tabulate-length f i zero = refl
-tabulate-length f i (suc count) = ap suc (tabulate-length f (suc i) count)
+each-length : (f : ℕ → ℕ) (i count : ℕ) → length (each f i count) ≡ count
+unfolding each
+each-length f i zero = refl
+each-length f i (suc count) = ap suc (each-length f (suc i) count)
 
-tabulate-from : (f : ℕ → ℕ) (i count k : ℕ) → k < count → getD (tabulate f i count) k 0 ≡ f (i + k)
-unfolding tabulate
-tabulate-from f i zero k h = absurd (omega arith)
-tabulate-from f i (suc count) zero h = let e : i ≡ i + 0 = omega arith in ap f e
-tabulate-from f i (suc count) (suc k) h =
-    let e : suc i + k ≡ i + suc k = omega arith in tabulate-from f (suc i) count k (omega arith) ∙ ap f e
+each-from : (f : ℕ → ℕ) (i count k : ℕ) → k < count → getD (each f i count) k 0 ≡ f (i + k)
+unfolding each
+each-from f i zero k h = absurd (omega arith)
+each-from f i (suc count) zero h = let e : i ≡ i + 0 = omega arith in ap f e
+each-from f i (suc count) (suc k) h =
+    let e : suc i + k ≡ i + suc k = omega arith in each-from f (suc i) count k (omega arith) ∙ ap f e
 
-tabulate-at : (f : ℕ → ℕ) (count k : ℕ) → k < count → getD (tabulate f 0 count) k 0 ≡ f k
-tabulate-at f count k h = let e : 0 + k ≡ k = omega arith in tabulate-from f 0 count k h ∙ ap f e
+each-at : (f : ℕ → ℕ) (count k : ℕ) → k < count → getD (each f 0 count) k 0 ≡ f k
+each-at f count k h = let e : 0 + k ≡ k = omega arith in each-from f 0 count k h ∙ ap f e
 
 zeros-at : (m i : ℕ) → _≡_ {A = ℕ} (getD (replicate m 0) i 0) 0
 zeros-at zero i = refl
@@ -110,10 +111,10 @@ module _ (v j a : ℕ) where
 module _ (n v : ℕ) (table : List ℕ) where
   -- the parts of a fresh block behind n and V
   freshClasses : List ℕ
-  freshClasses = tabulate (λ j. cond (ltb j v) j 0) 0 64
+  freshClasses = each (λ j. cond (ltb j v) j 0) 0 64
 
   freshKinds : List ℕ
-  freshKinds = tabulate (λ j. cond (ltb j v) 1 0) 0 64
+  freshKinds = each (λ j. cond (ltb j v) 1 0) 0 64
 
   freshRows : List ℕ
   freshRows = replicate (16 * v) unknown ++ replicate (1024 - 16 * v) 0
@@ -134,7 +135,7 @@ module _ (n v : ℕ) (table : List ℕ) where
     unfolding freshClasses freshKinds freshRows freshRest
     fresh-joined =
         rw (append-assoc (replicate (16 * v) unknown) (replicate (1024 - 16 * v) 0) freshRest) at
-        (joined (n ∷ v ∷ []) freshClasses freshKinds freshRows freshRest refl (tabulate-length _ 0 64) (tabulate-length _ 0 64) rows-length)
+        (joined (n ∷ v ∷ []) freshClasses freshKinds freshRows freshRest refl (each-length _ 0 64) (each-length _ 0 64) rows-length)
 
     pub fresh-opened : Opened n v table (freshBlock n v table)
     unfolding freshRest
@@ -148,11 +149,11 @@ module _ (n v : ℕ) (table : List ℕ) where
 
     class-at : (j : ℕ) → j < 64 → blockForm (freshBlock n v table) .class j ≡ cond (ltb j v) j 0
     unfolding freshClasses
-    class-at j h = rw (fresh-joined .classes) (tabulate-at (λ j. cond (ltb j v) j 0) 64 j h)
+    class-at j h = rw (fresh-joined .classes) (each-at (λ j. cond (ltb j v) j 0) 64 j h)
 
     kind-at : (j : ℕ) → j < 64 → blockForm (freshBlock n v table) .kind j ≡ cond (ltb j v) 1 0
     unfolding freshKinds
-    kind-at j h = rw (fresh-joined .kinds) (tabulate-at (λ j. cond (ltb j v) 1 0) 64 j h)
+    kind-at j h = rw (fresh-joined .kinds) (each-at (λ j. cond (ltb j v) 1 0) 64 j h)
 
     pub fresh-blank : Blank v (blockForm (freshBlock n v table))
     unfolding freshRows

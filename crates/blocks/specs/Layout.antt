@@ -2,10 +2,11 @@
 -- The first 1,154 bytes are the session's own; the kind table stands behind them.
 -- Assumes nothing.
 use mathlib.Core.Bool.{cond}
-use mathlib.Core.List.{List, [], _∷_, _++_}
-use Prim.Native.Nat.{ℕ, zero, suc, _+_, _-_, _*_}
+use mathlib.Core.List.{List, _∷_, _++_}
+use Prim.Native.Nat.{ℕ, _+_, _-_, _*_}
 use lib.Dec.{ltb}
 use lib.ListN.{length, getD, take, drop, replicate}
+use Rattle.runs.specs.Runs.{each}
 use Rattle.meaning.specs.Form.{Form, listForm}
 
 abbrev pub blockSize : ℕ
@@ -41,15 +42,10 @@ blockForm b = listForm (classesOf b) (jointKindsOf b) (rowsOf b)
 abbrev pub withForm : List ℕ → List ℕ → List ℕ → List ℕ → List ℕ
 withForm b classes kinds rows = take 2 b ++ (take 64 classes ++ (take 64 kinds ++ (take 1024 rows ++ drop 1154 b)))
 
--- f at i, i + 1, .., count of them
-unfoldable pub tabulate : (ℕ → ℕ) → ℕ → ℕ → List ℕ
-tabulate f i zero = []
-tabulate f i (suc count) = f i ∷ tabulate f (suc i) count
-
 -- a block as opening writes it: each of the v joints is a class of its own, with kind 1 and no known link
 abbrev pub freshBlock : ℕ → ℕ → List ℕ → List ℕ
 freshBlock n v table =
     n ∷ v
-    ∷ (tabulate (λ j. cond (ltb j v) j 0) 0 64
-    ++ (tabulate (λ j. cond (ltb j v) 1 0) 0 64
+    ∷ (each (λ j. cond (ltb j v) j 0) 0 64
+    ++ (each (λ j. cond (ltb j v) 1 0) 0 64
     ++ (replicate (16 * v) 255 ++ (replicate (1024 - 16 * v) 0 ++ (table ++ replicate (4096 - length table) 0)))))

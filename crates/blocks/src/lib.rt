@@ -7,7 +7,8 @@ ghost use lib.Dec.{eqb, leb, ltb};
 ghost use lib.ListN.{length, getD, take, drop, replicate};
 ghost use Rattle.replies.specs.Replies.{refuses};
 ghost use Rattle.tables.specs.Check.{Sized, tableReply};
-ghost use Rattle.blocks.specs.Layout.{kindsOf, blockForm, tabulate, freshBlock};
+ghost use Rattle.runs.specs.Runs.{each};
+ghost use Rattle.blocks.specs.Layout.{kindsOf, blockForm, freshBlock};
 ghost use Rattle.blocks.specs.WellFormed.{all, smallest, classFits, kindFits, linkFits, jointFits, wellFormed};
 
 fn wide(x: u8) -> usize
@@ -207,7 +208,7 @@ fn write_sizes(part: &mut [u8], n: u8, v: u8)
 // Each joint is a class of its own.
 fn write_classes(part: &mut [u8], v: usize)
     requires { ⌜ length (now part) ≡ 64 ⌝ }
-    ensures { λ _. ⌜ now (part .exit) ≡ tabulate (λ j. cond (ltb j v) j 0) 0 64 ⌝ }
+    ensures { λ _. ⌜ now (part .exit) ≡ each (λ j. cond (ltb j v) j 0) 0 64 ⌝ }
 {
     for j in 0..64 {
         part[j] = or_zero(j < v, j as u8);
@@ -217,7 +218,7 @@ fn write_classes(part: &mut [u8], v: usize)
 // Each class has kind 1.
 fn write_kinds(part: &mut [u8], v: usize)
     requires { ⌜ length (now part) ≡ 64 ⌝ }
-    ensures { λ _. ⌜ now (part .exit) ≡ tabulate (λ j. cond (ltb j v) 1 0) 0 64 ⌝ }
+    ensures { λ _. ⌜ now (part .exit) ≡ each (λ j. cond (ltb j v) 1 0) 0 64 ⌝ }
 {
     for j in 0..64 {
         part[j] = or_zero(j < v, 1);

@@ -16,7 +16,8 @@ use Rattle.meaning.specs.Picture.{Fact, rename}
 use Rattle.meaning.specs.Picture.Fact.{has-kind, same, leads}
 use Rattle.meaning.specs.Solving.{InRange, AllInRange}
 use Rattle.packets.specs.Packet.{byte, factAt}
-use Rattle.packets.specs.Facts.{factOf, each, rigFact, ruleFact}
+use Rattle.runs.specs.Runs.{each}
+use Rattle.packets.specs.Facts.{factOf, rigFact, ruleFact}
 
 -- the numbers from i on, one more of them
 pub each-more : {A : Type 0} (f : ℕ → A) (i count : ℕ) → each f i (suc count) ≡ each f i count ++ (f (i + count) ∷ [])

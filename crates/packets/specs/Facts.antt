@@ -1,9 +1,10 @@
 -- What a packet says: its facts, and for a rule its ties.
 -- Assumes nothing.
 use mathlib.Core.Bool.{cond}
-use mathlib.Core.List.{List, [], _∷_}
-use Prim.Native.Nat.{ℕ, zero, suc, _+_, _*_}
+use mathlib.Core.List.{List}
+use Prim.Native.Nat.{ℕ, _+_}
 use lib.Dec.{eqb}
+use Rattle.runs.specs.Runs.{each}
 use Rattle.meaning.specs.declared.RigJoint.{RigJoint}
 use Rattle.meaning.specs.declared.RuleJoint.{RuleJoint}
 use Rattle.meaning.specs.declared.Tie.{Tie}
@@ -23,11 +24,6 @@ factOf joint p at =
     cond (eqb (byte p at) 1) (has-kind (joint (byte p (at + 1))) (byte p (at + 2)))
     (cond (eqb (byte p at) 2) (same (joint (byte p (at + 1))) (joint (byte p (at + 2))))
     (leads (joint (byte p (at + 1))) (byte p (at + 2)) (joint (byte p (at + 3)))))
-
--- f at the numbers from i on, count of them
-unfoldable pub each : {A : Type 0} → (ℕ → A) → ℕ → ℕ → List A
-each f i zero = []
-each f i (suc count) = f i ∷ each f (suc i) count
 
 abbrev pub packetFacts : {J : Type 0} → (ℕ → J) → List ℕ → List (Fact J)
 packetFacts joint p = each (λ i. factOf joint p (factAt p i)) 0 (factCount p)

@@ -25,7 +25,8 @@ use Rattle.meaning.specs.Form.{rigJoint}
 use Rattle.meaning.specs.Rule.{Rule, ruleJoint, Found, Reached, Applies, RuledOut, Judged, verdictNumber}
 use Rattle.meaning.specs.Rule.Reached.{by-tie, by-link}
 use Rattle.packets.specs.Packet.{packetReply, ruleWanted, factFits, firstUnfit}
-use Rattle.packets.specs.Facts.{ruleOf, factOf, each}
+use Rattle.runs.specs.Runs.{each}
+use Rattle.packets.specs.Facts.{ruleOf, factOf}
 use Rattle.packets.specs.Reached.{ReachReply}
 use Rattle.packets.specs.Reached.SmallestNot.{all}
 use Rattle.session.specs.Ask.{askRefusal, Ask}

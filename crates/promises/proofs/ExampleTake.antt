@@ -18,7 +18,8 @@ use Rattle.meaning.specs.Picture.{Picture, Fact, All, SameMeaning, Every, Clash
 use Rattle.meaning.specs.Picture.Fact.{has-kind, leads}
 use Rattle.meaning.specs.Form.{rigJoint}
 use Rattle.packets.specs.Packet.{packetReply, factsWanted, factFits, firstUnfit}
-use Rattle.packets.specs.Facts.{rigFacts, factOf, each}
+use Rattle.runs.specs.Runs.{each}
+use Rattle.packets.specs.Facts.{rigFacts, factOf}
 use Rattle.blocks.specs.Layout.{kindsOf, jointsOf, tableOf}
 use Rattle.blocks.proofs.Shape.{put-together}
 use Rattle.blocks.proofs.Bytes.{Opened}

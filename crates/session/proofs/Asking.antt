@@ -29,7 +29,8 @@ use Rattle.meaning.proofs.Extend.{extend-well}
 use Rattle.meaning.proofs.Asked.{clash-ruled-out, taken-not-out, settled-applies, applies-settled}
 use Rattle.meaning.proofs.Takes.{taken-then, refuted-then, refuted-more}
 use Rattle.packets.specs.Packet.{ties, joints, tieAt, factAt, factCount, packetReply, ruleWanted}
-use Rattle.packets.specs.Facts.{factOf, each, tieOf, ruleOf}
+use Rattle.runs.specs.Runs.{each}
+use Rattle.packets.specs.Facts.{factOf, tieOf, ruleOf}
 use Rattle.packets.specs.Reached.{ReachReply}
 use Rattle.packets.specs.Marking.{nthFact}
 use Rattle.packets.proofs.WellFormed.{WellFormed, well-formed, packet-done}
@@ -43,18 +44,7 @@ use Rattle.session.specs.Block.{blockReply, meetOf, taken}
 use Rattle.session.specs.Ask.{askRefusal, Ask}
 use Rattle.session.specs.Ask.Ask.{refused, unreached, judged}
 use Rattle.session.proofs.Blocks.{GoodBlock, good-block}
-use Rattle.session.proofs.Folding.{Folding, fold-begins, fold-takes, fold-clashes, each-map}
-
--- one fact more, g, which is the i-th
-module _
-    {n v : ℕ} {table : List ℕ} {first : Form} {all : List (Fact ℕ)} {f : ℕ → Fact ℕ} {i m : ℕ} {S T : Form}
-    (l : Folding n table v first all f i m S) (h : i < m) {g : Fact ℕ} (e : g ≡ f i) {ok : Bool}
-    (t : Took n (meetAt n table) v S (g ∷ []) ok T) where
-  pub fold-next : ok ≡ true → Folding n table v first all f (i + 1) m T
-  fold-next q = fold-takes l h (rw e at (t .taken q))
-
-  pub fold-stops : ok ≡ false → Took n (meetAt n table) v first all ok T
-  fold-stops q = rw q (fold-clashes l T h (rw e at (t .refuted q)))
+use Rattle.session.proofs.Folding.{Folding, fold-begins, each-map}
 
 -- a fact on nodes is in range, where the fact on the rule's joints is in range
 node-range : (n v k : ℕ) (f : Fact RuleJoint) → InRange n k (rename ruleNumber f) → InRange n (v + k) (rename (ruleNode v) f)

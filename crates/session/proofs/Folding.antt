@@ -1,6 +1,6 @@
 -- Facts taken one after another in a loop: what is left to take from the form at hand decides what was to be taken from the first.
 -- Assumes nothing.
-use mathlib.Core.Path.{_≡_, refl, ap, subst}
+use mathlib.Core.Path.{_≡_, refl, ap}
 use mathlib.Core.Bool.{Bool, true, false}
 use mathlib.Core.List.{List, [], _∷_, map}
 use Prim.Native.Nat.{ℕ, zero, suc, _+_, _-_, _<_, _≤_}
@@ -10,7 +10,7 @@ use Rattle.kinds.specs.Kinds.{meetAt}
 use Rattle.meaning.specs.Picture.{Fact}
 use Rattle.meaning.specs.Form.{Form}
 use Rattle.meaning.specs.Solving.{Taken, Refuted}
-use Rattle.packets.specs.Facts.{each}
+use Rattle.runs.specs.Runs.{each}
 use Rattle.solver.specs.Unpacked.{Ready, Took}
 use Rattle.solver.proofs.Takes.{taken-none, took-taken, took-refuted, took-more, refuted-first, ready-after}
 
@@ -39,7 +39,7 @@ fold-begins {n} {v} {table} {first} f m r =
 
 module _ {n v : ℕ} {table : List ℕ} {first : Form} {all : List (Fact ℕ)} {f : ℕ → Fact ℕ} {i m : ℕ} {S : Form} (l : Folding n table v first all f i m S) where
   -- the fact f i is taken
-  pub fold-takes : {T : Form} → i < m → Taken n (meetAt n table) v S (f i ∷ []) T → Folding n table v first all f (i + 1) m T
+  fold-takes : {T : Form} → i < m → Taken n (meetAt n table) v S (f i ∷ []) T → Folding n table v first all f (i + 1) m T
   fold-takes {T} h t =
       record {
         ready = ready-after (l .ready) t;
@@ -47,7 +47,7 @@ module _ {n v : ℕ} {table : List ℕ} {first : Form} {all : List (Fact ℕ)} {
       }
 
   -- the fact f i clashes
-  pub fold-clashes : (U : Form) → i < m → Refuted n (meetAt n table) v S (f i ∷ []) → Took n (meetAt n table) v first all false U
+  fold-clashes : (U : Form) → i < m → Refuted n (meetAt n table) v S (f i ∷ []) → Took n (meetAt n table) v first all false U
   fold-clashes U h r = let more = each f (i + 1) (m - (i + 1)) in
       l .rest false U (rw (each-step f h) (took-refuted (f i ∷ more) U (refuted-first (f i) more r)))
 
@@ -55,9 +55,13 @@ module _ {n v : ℕ} {table : List ℕ} {first : Form} {all : List (Fact ℕ)} {
   pub fold-ends : m ≤ i → Took n (meetAt n table) v first all true S
   fold-ends h = l .rest true S (rw (each-end f h) (took-taken [] S (taken-none (l .ready .well))))
 
--- the fact that the code made is the one that was to be taken
-pub taken-as : {n v : ℕ} {meet : ℕ → ℕ → ℕ} {S T : Form} {f g : Fact ℕ} → f ≡ g → Taken n meet v S (f ∷ []) T → Taken n meet v S (g ∷ []) T
-taken-as {n} {v} {meet} {S} {T} e t = subst (λ (h : Fact ℕ). Taken n meet v S (h ∷ []) T) e t
+-- one fact more, g, which is the i-th
+module _
+    {n v : ℕ} {table : List ℕ} {first : Form} {all : List (Fact ℕ)} {f : ℕ → Fact ℕ} {i m : ℕ} {S T : Form}
+    (l : Folding n table v first all f i m S) (h : i < m) {g : Fact ℕ} (e : g ≡ f i) {ok : Bool}
+    (t : Took n (meetAt n table) v S (g ∷ []) ok T) where
+  pub fold-next : ok ≡ true → Folding n table v first all f (i + 1) m T
+  fold-next q = fold-takes l h (rw e at (t .taken q))
 
-pub refuted-as : {n v : ℕ} {meet : ℕ → ℕ → ℕ} {S : Form} {f g : Fact ℕ} → f ≡ g → Refuted n meet v S (f ∷ []) → Refuted n meet v S (g ∷ [])
-refuted-as {n} {v} {meet} {S} e r = subst (λ (h : Fact ℕ). Refuted n meet v S (h ∷ [])) e r
+  pub fold-stops : ok ≡ false → Took n (meetAt n table) v first all ok T
+  fold-stops q = rw q (fold-clashes l T h (rw e at (t .refuted q)))

@@ -25,7 +25,8 @@ use Rattle.meaning.specs.Form.{Form, unknown, Smallest, Well, linksFrom, factsA
 use Rattle.meaning.specs.Solving.{AllInRange}
 use Rattle.meaning.proofs.Canon.{canon, canon-rig-placing, canon-taken, atClass}
 use Rattle.packets.specs.Packet.{L, ties, joints, factAt, factCount, factsWanted, factFits, firstUnfit, packetReply}
-use Rattle.packets.specs.Facts.{factOf, each, rigFacts}
+use Rattle.runs.specs.Runs.{each}
+use Rattle.packets.specs.Facts.{factOf, rigFacts}
 use Rattle.packets.proofs.Converse.{Four, FactAt, both-true, packet-fits, fits-then, fact-read, fact-fits}
 use Rattle.blocks.specs.Layout.{kindsOf, jointsOf, tableOf, blockForm, freshBlock}
 use Rattle.blocks.proofs.Shape.{taken-apart, put-together, two-kinds, some-joint, block-lawful, block-sized}

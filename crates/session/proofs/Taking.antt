@@ -15,7 +15,8 @@ use Rattle.meaning.specs.Picture.Fact.{has-kind, same, leads}
 use Rattle.meaning.specs.Form.{Form, rigJoint}
 use Rattle.meaning.specs.Solving.{rigNumber, InRange}
 use Rattle.packets.specs.Packet.{packetReply, factsWanted, joints, factAt, factCount}
-use Rattle.packets.specs.Facts.{factOf, each, rigFacts}
+use Rattle.runs.specs.Runs.{each}
+use Rattle.packets.specs.Facts.{factOf, rigFacts}
 use Rattle.packets.proofs.WellFormed.{WellFormed, well-formed, packet-done}
 use Rattle.packets.proofs.Facts.{fact-named}
 use Rattle.solver.specs.declared.Solved.{Solved}

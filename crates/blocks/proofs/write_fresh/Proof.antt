@@ -4,7 +4,7 @@ use mathlib.Core.Path.{refl, _∙_}
 use native.Mathlib.Omega.{arith}
 use lib.ListN.{length-append, length-replicate}
 use Rattle.kinds.proofs.Offset.{square-le}
-use Rattle.blocks.proofs.Checks.{none-written, part-written, all-written, in-order, tabulate-length}
+use Rattle.blocks.proofs.Checks.{none-written, part-written, all-written, in-order, each-length}
 use borrow.Author.Needs.{needs}
 use Rattle.blocks.proofs.write_fresh.Statement.{statement}
 use Rattle.blocks.proofs.write_fresh.Tie as tie
@@ -88,8 +88,8 @@ returns c =
     let s = sizes .before .before .before .before in
     let sized = s .pre .1 .0 in
     let one = part-written (none-written (s .args .block .now)) 2 (sizes .write-sizes .ensures) refl in
-    let two = part-written one 64 (classes .write-classes .ensures) (tabulate-length _ 0 64) in
-    let three = part-written two 64 (kinds .write-kinds .ensures) (tabulate-length _ 0 64) in
+    let two = part-written one 64 (classes .write-classes .ensures) (each-length _ 0 64) in
+    let three = part-written two 64 (kinds .write-kinds .ensures) (each-length _ 0 64) in
     let four =
     part-written three 1024 (rows .write-rows .ensures)
     (simp (length-append, length-replicate) (omega (arith, s .pre .1 .1 .1))) in

@@ -6,7 +6,7 @@ use Prim.Native.Nat.{_-_, _≤_}
 use native.Mathlib.Omega.{arith}
 use lib.Dec.{ltb}
 use Rattle.runs.proofs.Loops.{Filling, none-stored, stored, all-stored}
-use Rattle.blocks.proofs.Checks.{anyKinds, tabulate-length, tabulate-at}
+use Rattle.blocks.proofs.Checks.{anyKinds, each-length, each-at}
 use Rattle.blocks.proofs.write_kinds.Statement.{statement}
 use Rattle.blocks.proofs.write_kinds.Tie as tie
 
@@ -17,7 +17,7 @@ abbrev μ-loop : tie.MeasureT-loop
 μ-loop part₀ v j₀ part j = 64 - j
 
 loop-holds : tie.Need-loop-holds Inv-loop μ-loop
-loop-holds c = (omega arith, none-stored (tabulate-length _ 0 64) (c .before .pre))
+loop-holds c = (omega arith, none-stored (each-length _ 0 64) (c .before .pre))
 
 or-zero-requires : tie.Need-or-zero-requires Inv-loop μ-loop
 or-zero-requires c κs = tt
@@ -34,7 +34,7 @@ loop-less c = omega arith
 loop-again : tie.Need-loop-again Inv-loop μ-loop
 loop-again c = (
   omega arith,
-  stored (c .before .before .loop .inv .1) (omega arith) (c .or-zero .ensures ∙ tabulate-at (λ k. cond (ltb k _) 1 0) 64 _ (omega arith)),
+  stored (c .before .before .loop .inv .1) (omega arith) (c .or-zero .ensures ∙ each-at (λ k. cond (ltb k _) 1 0) 64 _ (omega arith)),
 )
 
 same-length : tie.Need-same-length Inv-loop μ-loop

@@ -14,8 +14,8 @@ use Rattle.packets.specs.Facts.{factOf, ruleFact, ruleOf}
 use Rattle.packets.specs.Marking.{nthFact}
 use Rattle.packets.proofs.Packet.{fact-inside}
 use Rattle.solver.specs.Unpacked.{formOf, nodeFact}
-use Rattle.session.proofs.Folding.{Folding, fold-ends}
-use Rattle.session.proofs.Asking.{nodeRuleFact, rule-fits, fact-small, node-fact-range, facts-begin, fold-next, fold-stops}
+use Rattle.session.proofs.Folding.{Folding, fold-ends, fold-next, fold-stops}
+use Rattle.session.proofs.Asking.{nodeRuleFact, rule-fits, fact-small, node-fact-range, facts-begin}
 use Rattle.session.proofs.ask.with_rule_facts.Statement.{statement}
 use Rattle.session.proofs.ask.with_rule_facts.Tie as tie
 

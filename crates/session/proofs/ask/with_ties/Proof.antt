@@ -11,8 +11,8 @@ use Rattle.packets.specs.Packet.{ties, joints}
 use Rattle.packets.specs.Facts.{ruleOf}
 use Rattle.packets.proofs.Packet.{tie-inside}
 use Rattle.solver.specs.Unpacked.{formOf, nodeFact}
-use Rattle.session.proofs.Folding.{Folding, fold-ends}
-use Rattle.session.proofs.Asking.{nodeTie, rule-fits, tie-range, ties-begin, fold-next, fold-stops}
+use Rattle.session.proofs.Folding.{Folding, fold-ends, fold-next, fold-stops}
+use Rattle.session.proofs.Asking.{nodeTie, rule-fits, tie-range, ties-begin}
 use Rattle.session.proofs.ask.with_ties.Statement.{statement}
 use Rattle.session.proofs.ask.with_ties.Tie as tie
 

@@ -9,13 +9,12 @@ use Rattle.meaning.specs.Picture.{rename}
 use Rattle.meaning.specs.Form.{rigJoint}
 use Rattle.meaning.specs.Solving.{rigNumber}
 use Rattle.packets.specs.Packet.{factCount}
-use Rattle.packets.specs.Facts.{each, factOf}
+use Rattle.runs.specs.Runs.{each}
+use Rattle.packets.specs.Facts.{factOf}
 use Rattle.packets.proofs.Packet.{fact-inside}
-use Rattle.solver.specs.Unpacked.{formOf}
-use Rattle.session.proofs.Folding.{Folding, fold-begins, fold-takes, fold-clashes, fold-ends, taken-as, refuted-as}
+use Rattle.solver.specs.Unpacked.{formOf, nodeFact}
+use Rattle.session.proofs.Folding.{Folding, fold-begins, fold-next, fold-stops, fold-ends}
 use Rattle.session.proofs.Taking.{nodeFactAt, packet-well, node-fact-in, all-taken}
-use Rattle.packets.specs.Facts.{each}
-use Rattle.session.proofs.Taking.{nodeFactAt, node-facts, packet-well, node-fact-in}
 use Rattle.session.proofs.take.with_facts.Statement.{statement}
 use Rattle.session.proofs.take.with_facts.Tie as tie
 
@@ -31,6 +30,12 @@ fact-count-requires c κs = (packet-well (c .before .before .pre .1)) .whole .he
 
 loop-holds : tie.Need-loop-holds Inv-loop μ-loop
 loop-holds c = (omega arith, c .fact-count .ensures, fold-begins _ _ (c .before .before .before .pre .0))
+
+-- the fact read is the i-th, at nodes
+read :
+    (c : tie.After-rig-node-fact Inv-loop μ-loop) →
+    nodeFact (c .rig-node-fact .result) ≡ nodeFactAt (c .before .before .before .before .before .before .before .before .args .packet .now) (c .before .before .before .before .loop .i)
+read c = c .rig-node-fact .ensures ∙ ap (rename rigNumber) (c .before .rig-fact .ensures ∙ ap (factOf rigJoint _) (c .before .before .fact-at .ensures .0))
 
 fact-at-requires : tie.Need-fact-at-requires Inv-loop μ-loop
 fact-at-requires c κs = let h = (packet-well (c .before .before .before .before .before .pre .1)) .whole in (h .header, omega (arith, h .few, c .before .loop .inv .1))
@@ -49,10 +54,10 @@ with-fact-requires c κs = let l = c .before .before .before .before .loop in (
 )
 
 returns : tie.Need-returns Inv-loop μ-loop
-returns c = let l = c .before .before .before .before .before .before .before .loop in
-    all-taken _ _ (l .inv .1) (not-true _ (c .if1 .taken))
-    (fold-clashes (l .inv .2) _ (c .before .before .before .before .before .before .loop-test .taken)
-    (refuted-as (c .before .before .before .rig-node-fact .ensures ∙ ap (rename rigNumber) (c .before .before .before .before .rig-fact .ensures ∙ ap (factOf rigJoint _) (c .before .before .before .before .before .fact-at .ensures .0))) (c .before .before .with-fact .ensures .refuted (not-true _ (c .if1 .taken)))))
+returns c =
+    let l = c .before .before .before .before .before .before .before .loop in
+    let no = not-true _ (c .if1 .taken) in
+    all-taken _ _ (l .inv .1) refl (fold-stops (l .inv .2) (c .before .before .before .before .before .before .loop-test .taken) (read (c .before .before .before)) (c .before .before .with-fact .ensures) no)
 
 add-i : tie.Need-add-i Inv-loop μ-loop
 add-i c = omega arith
@@ -64,8 +69,7 @@ loop-again : tie.Need-loop-again Inv-loop μ-loop
 loop-again c = let l = c .before .before .before .before .before .before .before .before .loop in (
   omega arith,
   l .inv .1,
-  fold-takes (l .inv .2) (c .before .before .before .before .before .before .before .loop-test .taken)
-      (taken-as (c .before .before .before .before .rig-node-fact .ensures ∙ ap (rename rigNumber) (c .before .before .before .before .before .rig-fact .ensures ∙ ap (factOf rigJoint _) (c .before .before .before .before .before .before .fact-at .ensures .0))) (c .before .before .before .with-fact .ensures .taken (not-false _ (c .before .if1 .left)))),
+  fold-next (l .inv .2) (c .before .before .before .before .before .before .before .loop-test .taken) (read (c .before .before .before .before)) (c .before .before .before .with-fact .ensures) (not-false _ (c .before .if1 .left)),
 )
 
 returns-2 : tie.Need-returns-2 Inv-loop μ-loop
