@@ -242,7 +242,8 @@ impl Solved {
     }
 
     // The form with one fact more and all that follows from it, or a clash. A copy of the form costs more than most facts do: it is copied
-    // in once, changed in place and copied out once, and only where classes are to be joined is it handed on.
+    // in once, changed in place and copied out once, and only where classes are to be joined is it handed on. So each arm returns by itself
+    // and puts together anew what `settled` hands back: a result that the arms share would be copied once more.
     pub fn with_fact(self, table: &[u8], n: usize, v: usize, fact: NodeFact) -> Next
         requires { ⌜ Ready n v (now table) (formOf self) × InRange n v (nodeFact fact) ⌝ }
         ensures { λ r. ⌜ Took n (meetAt n (now (table .entry))) v (formOf self) (nodeFact fact ∷ []) (r .ok) (formOf (r .form)) ⌝ }
