@@ -265,7 +265,7 @@ pub fn tie(packet: &[u8], at: usize) -> Tie
     }
 }
 
-// Which of a rule's joints are known to be reached: 1 for a joint that is, else 0. Bytes, not bools, since a copy of bytes is one move.
+// Which of a rule's joints are known to be reached: 1 for a joint that is, else 0. Bytes, for an array of bools is copied bool by bool.
 pub struct Marks(pub [u8; 32]);
 
 fn is_marked(marks: Marks, j: usize) -> bool

@@ -20,7 +20,7 @@ use solver::Next;
 use solver::NodeFact;
 use solver::Solved;
 
-// What the solver makes of a packet: whether it clashes, the number of joins, and the form, which at a clash holds the facts before it.
+// What the solver makes of a packet: whether it clashes, and where it does not, the number of joins and the next form.
 pub struct Outcome {
     pub clash: bool,
     pub joins: u32,
