@@ -1,5 +1,6 @@
-// The library beside the plain C++ version. Both run the same call on the same bytes, turn by turn in one process; each turn gives one ratio,
-// and the line shows the middle one. Before a line is measured both must have given the same number and left the same bytes.
+// The library beside the plain C++ version. Both run the same call on the same bytes, turn by turn in one process; each
+// turn gives one ratio, and the line shows the middle one. Before a line is measured both must have given the same
+// number and left the same bytes.
 
 #include "vornulica.h"
 #include "work.hpp"
@@ -16,7 +17,7 @@ namespace {
 using Clock = std::chrono::steady_clock;
 
 constexpr paper::Calls library = {rig_open, rig_take, rig_ask, rig_write, rig_house};
-const paper::Calls &plain = paper::calls(paper::Fault::none);
+const paper::Calls& plain = paper::calls(paper::Fault::none);
 
 // A call writes into its own slot, so that taking can be repeated on the same start.
 constexpr size_t slots = 32;
@@ -26,7 +27,7 @@ static_assert(slot_room >= host::longest_solved_form, "a slot holds any output")
 struct Work {
     std::string name;
     Bytes start; // what a slot holds before the call
-    std::function<std::uint64_t(const paper::Calls &, host::Byte *slot)> call;
+    std::function<std::uint64_t(const paper::Calls&, host::Byte* slot)> call;
 };
 
 struct Figures {
@@ -41,7 +42,7 @@ double middle(std::vector<double> values, double part = 0.5)
     return values[static_cast<size_t>(part * static_cast<double>(values.size() - 1))];
 }
 
-double nanoseconds_each(const Work &work, const paper::Calls &calls, Bytes &memory)
+double nanoseconds_each(const Work& work, const paper::Calls& calls, Bytes& memory)
 {
     for (size_t slot = 0; slot < slots; slot++)
         std::copy(work.start.begin(), work.start.end(), memory.begin() + slot * slot_room);
@@ -52,7 +53,7 @@ double nanoseconds_each(const Work &work, const paper::Calls &calls, Bytes &memo
     return took.count() / slots;
 }
 
-void must_agree(const Work &work)
+void must_agree(const Work& work)
 {
     Bytes ours = work.start;
     Bytes theirs = work.start;
@@ -62,7 +63,7 @@ void must_agree(const Work &work)
     std::exit(1);
 }
 
-Figures measured(const Work &work, size_t rounds)
+Figures measured(const Work& work, size_t rounds)
 {
     must_agree(work);
     Bytes memory(slots * slot_room);
@@ -75,28 +76,26 @@ Figures measured(const Work &work, size_t rounds)
         theirs.push_back(library_first ? second : first);
         ratios.push_back(ours.back() / theirs.back());
     }
-    return {middle(ratios), middle(ratios, 0.25), middle(ratios, 0.75), middle(ours),
-            middle(theirs)};
+    return {middle(ratios), middle(ratios, 0.25), middle(ratios, 0.75), middle(ours), middle(theirs)};
 }
 
 // ------------------------------------------------------------------- the work
 
-Work opening(const std::string &name, const Kinds &kinds, size_t v)
+Work opening(const std::string& name, const Kinds& kinds, size_t v)
 {
-    return {name, Bytes(slot_room, 0xee), [=](const paper::Calls &calls, host::Byte *slot) {
-                return calls.open(kinds.n, v, kinds.table.data(), kinds.table.size(), slot,
-                                  host::block_length);
+    return {name, Bytes(slot_room, 0xee), [=](const paper::Calls& calls, host::Byte* slot) {
+                return calls.open(kinds.n, v, kinds.table.data(), kinds.table.size(), slot, host::block_length);
             }};
 }
 
-Bytes opened(const Kinds &kinds, size_t v)
+Bytes opened(const Kinds& kinds, size_t v)
 {
     Bytes block(host::block_length);
     plain.open(kinds.n, v, kinds.table.data(), kinds.table.size(), block.data(), block.size());
     return block;
 }
 
-Bytes taken(Bytes block, const std::vector<Fact> &facts)
+Bytes taken(Bytes block, const std::vector<Fact>& facts)
 {
     const Bytes packet = facts_packet(block[1], facts);
     if (plain.take(block.data(), block.size(), packet.data(), packet.size()) % 256 != 0) {
@@ -106,25 +105,25 @@ Bytes taken(Bytes block, const std::vector<Fact> &facts)
     return block;
 }
 
-Work taking(const std::string &name, const Bytes &block, const std::vector<Fact> &facts)
+Work taking(const std::string& name, const Bytes& block, const std::vector<Fact>& facts)
 {
     const Bytes packet = facts_packet(block[1], facts);
-    return {name, block, [=](const paper::Calls &calls, host::Byte *slot) {
+    return {name, block, [=](const paper::Calls& calls, host::Byte* slot) {
                 return calls.take(slot, host::block_length, packet.data(), packet.size());
             }};
 }
 
-Work asking(const std::string &name, const Bytes &block, const Rule &rule)
+Work asking(const std::string& name, const Bytes& block, const Rule& rule)
 {
     const Bytes packet = rule.packet();
-    return {name, block, [=](const paper::Calls &calls, host::Byte *slot) {
+    return {name, block, [=](const paper::Calls& calls, host::Byte* slot) {
                 return calls.ask(slot, host::block_length, packet.data(), packet.size());
             }};
 }
 
-Work writing(const std::string &name, const Bytes &block)
+Work writing(const std::string& name, const Bytes& block)
 {
-    return {name, Bytes(slot_room, 0xee), [=](const paper::Calls &calls, host::Byte *slot) {
+    return {name, Bytes(slot_room, 0xee), [=](const paper::Calls& calls, host::Byte* slot) {
                 return calls.write(block.data(), block.size(), slot, host::longest_solved_form);
             }};
 }
@@ -138,18 +137,17 @@ Kinds broken_late()
     return kinds;
 }
 
-void line(const Work &work, size_t rounds)
+void line(const Work& work, size_t rounds)
 {
     const Figures f = measured(work, rounds);
-    std::printf("%-46s %6.2f  (%4.2f to %4.2f) %12.0f %12.0f\n", work.name.c_str(), f.ratio, f.low,
-                f.high, f.library_ns, f.plain_ns);
+    std::printf("%-46s %6.2f  (%4.2f to %4.2f) %12.0f %12.0f\n", work.name.c_str(), f.ratio, f.low, f.high,
+                f.library_ns, f.plain_ns);
     std::fflush(stdout);
 }
 
-void heading(const char *text)
+void heading(const char* text)
 {
-    std::printf("\n%-46s %6s  %14s %12s %12s\n", text, "ratio", "middle half", "library ns",
-                "plain ns");
+    std::printf("\n%-46s %6s  %14s %12s %12s\n", text, "ratio", "middle half", "library ns", "plain ns");
 }
 
 void main_table(size_t rounds)
@@ -185,14 +183,11 @@ void growth(size_t rounds)
 {
     heading("with n: ask, arm rule, 25 joints, nothing known");
     for (const size_t n : {8, 16, 32, 48, 64})
-        line(asking("n = " + std::to_string(n), opened(kinds_of(n), humanoid_joints),
-                    arm_rule(5, 1, 1, 1)),
-             rounds);
+        line(asking("n = " + std::to_string(n), opened(kinds_of(n), humanoid_joints), arm_rule(5, 1, 1, 1)), rounds);
     for (const size_t n : {8, 33, 64}) {
         heading(("with facts: take, n = " + std::to_string(n) + ", 64 joints, no join").c_str());
         for (const size_t facts : {0, 136, 272, 544, 1088})
-            line(taking(std::to_string(facts) + " facts", opened(kinds_of(n), most_joints),
-                        plain_facts(facts)),
+            line(taking(std::to_string(facts) + " facts", opened(kinds_of(n), most_joints), plain_facts(facts)),
                  rounds);
     }
 }
@@ -200,7 +195,7 @@ void growth(size_t rounds)
 } // namespace
 } // namespace bench
 
-int main(int argc, char **argv)
+int main(int argc, char** argv)
 {
     const long rounds = argc == 2 ? std::atol(argv[1]) : 201;
     if (argc > 2 || rounds < 1) {

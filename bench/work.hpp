@@ -9,13 +9,13 @@ namespace bench {
 
 using host::Bytes;
 using host::Fact;
-using host::Kinds;
-using host::Rule;
-using host::Tie;
 using host::facts_packet;
 using host::has_kind;
 using host::is_one_with;
+using host::Kinds;
 using host::link_leads;
+using host::Rule;
+using host::Tie;
 using std::size_t;
 
 // A lawful table of n kinds that is neither a chain nor flat.
@@ -35,12 +35,12 @@ struct Joint {
 
 constexpr size_t humanoid_joints = 25;
 constexpr Joint humanoid[humanoid_joints] = {
-    {0, 0, 8},                                                           // 0 hips
-    {0, 0, 5},  {1, 0, 5},   {2, 0, 6},   {3, 0, 7},                     // spine, chest, neck, head
-    {2, 1, 11}, {5, 0, 21},  {6, 0, 23},  {7, 0, 25}, {8, 0, 25}, {8, 1, 25}, // left shoulder to fingers
+    {0, 0, 8},                                                                   // 0 hips
+    {0, 0, 5},  {1, 0, 5},   {2, 0, 6},   {3, 0, 7},                             // spine, chest, neck, head
+    {2, 1, 11}, {5, 0, 21},  {6, 0, 23},  {7, 0, 25},  {8, 0, 25},  {8, 1, 25},  // left shoulder to fingers
     {2, 2, 12}, {11, 0, 22}, {12, 0, 24}, {13, 0, 26}, {14, 0, 26}, {14, 1, 26}, // right shoulder to fingers
-    {0, 1, 27}, {17, 0, 29}, {18, 0, 31}, {19, 0, 31},                   // left thigh to toes
-    {0, 2, 28}, {21, 0, 30}, {22, 0, 32}, {23, 0, 32},                   // right thigh to toes
+    {0, 1, 27}, {17, 0, 29}, {18, 0, 31}, {19, 0, 31},                           // left thigh to toes
+    {0, 2, 28}, {21, 0, 30}, {22, 0, 32}, {23, 0, 32},                           // right thigh to toes
 };
 
 inline std::vector<Fact> humanoid_facts()
@@ -59,8 +59,8 @@ inline Rule arm_rule(size_t shoulder, size_t upper, size_t fore, size_t hand)
 {
     return {4,
             {Tie{0, static_cast<host::Byte>(shoulder)}},
-            {link_leads(0, 0, 1), has_kind(1, upper), link_leads(1, 0, 2), has_kind(2, fore),
-             link_leads(2, 0, 3), has_kind(3, hand)}};
+            {link_leads(0, 0, 1), has_kind(1, upper), link_leads(1, 0, 2), has_kind(2, fore), link_leads(2, 0, 3),
+             has_kind(3, hand)}};
 }
 
 inline Rule applying_rule() { return arm_rule(5, 15, 16, 17); }
@@ -76,8 +76,8 @@ inline Rule waiting_rule()
 
 constexpr size_t most_joints = 64;
 
-// All 1,024 links, each joint's to other joints; then an equality that makes its two joints one and, link by link, all 64; 63 more that say it
-// again.
+// All 1,024 links, each joint's to other joints; then an equality that makes its two joints one and, link by link, all
+// 64; 63 more that say it again.
 inline std::vector<Fact> worst_facts()
 {
     std::vector<Fact> facts;
@@ -96,8 +96,7 @@ inline std::vector<Fact> joining_facts()
     for (size_t joint = most_joints; joint-- > 1;)
         facts.push_back(is_one_with(joint - 1, joint));
     for (size_t joint = 0; facts.size() < host::most_facts; joint++)
-        facts.push_back(link_leads(joint % most_joints, joint % host::links_per_joint,
-                                   (joint * 7) % most_joints));
+        facts.push_back(link_leads(joint % most_joints, joint % host::links_per_joint, (joint * 7) % most_joints));
     return facts;
 }
 

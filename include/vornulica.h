@@ -111,22 +111,13 @@ enum rig_verdict {
 /* Every call answers with one number: number + 256 x third + 2^32 x place. These split it. */
 
 /* The reply's number, of enum rig_reply. */
-static inline uint8_t rig_number(uint64_t answer)
-{
-    return answer & 0xFF;
-}
+static inline uint8_t rig_number(uint64_t answer) { return answer & 0xff; }
 
 /* The third number: what it counts stands at each call. 0 for every refusal. */
-static inline uint32_t rig_third(uint64_t answer)
-{
-    return (answer >> 8) & 0xFFFFFF;
-}
+static inline uint32_t rig_third(uint64_t answer) { return (answer >> 8) & 0xffffff; }
 
 /* Where the reply points to, as told in enum rig_reply. */
-static inline uint32_t rig_place(uint64_t answer)
-{
-    return (uint32_t)(answer >> 32);
-}
+static inline uint32_t rig_place(uint64_t answer) { return (uint32_t)(answer >> 32); }
 
 /*
  * Opens a session of v joints, with the meet table of n kinds: meet(i,j) at i x n + j.
@@ -142,9 +133,7 @@ static inline uint32_t rig_place(uint64_t answer)
  *                   with meet(meet(i,j),k) not meet(i,meet(j,k))
  * A refused call changes no byte of the block.
  */
-uint64_t rig_open(uint64_t n, uint64_t v,
-                  const uint8_t *table, size_t table_size,
-                  uint8_t *block, size_t block_size);
+uint64_t rig_open(uint64_t n, uint64_t v, const uint8_t* table, size_t table_size, uint8_t* block, size_t block_size);
 
 /*
  * Takes a packet of facts into the session: all of its facts, or none.
@@ -162,8 +151,7 @@ uint64_t rig_open(uint64_t n, uint64_t v,
  *   RIG_CLASH       place 0; a fact of kind 0 always clashes
  * A refused call changes no byte of the block.
  */
-uint64_t rig_take(uint8_t *block, size_t block_size,
-                  const uint8_t *packet, size_t packet_size);
+uint64_t rig_take(uint8_t* block, size_t block_size, const uint8_t* packet, size_t packet_size);
 
 /*
  * Asks a rule of the session.
@@ -181,8 +169,7 @@ uint64_t rig_take(uint8_t *block, size_t block_size,
  *   RIG_NOT_REACHED the smallest rule joint that is not reached
  * Changes no byte, done or refused.
  */
-uint64_t rig_ask(const uint8_t *block, size_t block_size,
-                 const uint8_t *packet, size_t packet_size);
+uint64_t rig_ask(const uint8_t* block, size_t block_size, const uint8_t* packet, size_t packet_size);
 
 /*
  * Writes the solved form: a packet of facts that gives a fresh session with the same table and joint
@@ -196,8 +183,7 @@ uint64_t rig_ask(const uint8_t *block, size_t block_size,
  *   RIG_SHORT_OUTPUT place 0
  * A refused call changes no byte of out.
  */
-uint64_t rig_write(const uint8_t *block, size_t block_size,
-                   uint8_t *out, size_t out_size);
+uint64_t rig_write(const uint8_t* block, size_t block_size, uint8_t* out, size_t out_size);
 
 /*
  * Writes the meet table of the house kinds, to open sessions with.
@@ -208,7 +194,7 @@ uint64_t rig_write(const uint8_t *block, size_t block_size,
  *   RIG_BAD_SIZE  table_size not 1,089
  * A refused call changes no byte of the table.
  */
-uint64_t rig_house(uint8_t *table, size_t table_size);
+uint64_t rig_house(uint8_t* table, size_t table_size);
 
 #ifdef __cplusplus
 }

@@ -44,6 +44,15 @@ inline constexpr std::uint64_t house_kinds = RIG_HOUSE_KINDS;
 // An output of this size is never too short for a solved form.
 inline constexpr std::size_t max_facts_size = RIG_MAX_FACTS_SIZE;
 
+namespace detail {
+
+// Stands only for a container whose data() is such a pointer, and that has a size().
+template <class Container, class Pointer>
+using IfLends = std::enable_if_t<std::is_convertible_v<decltype(std::declval<Container&>().data()), Pointer> &&
+                                 std::is_convertible_v<decltype(std::declval<Container&>().size()), std::size_t>>;
+
+} // namespace detail
+
 // Bytes that belong to someone else and are only read. They must outlive the view.
 class Bytes {
 public:
@@ -51,15 +60,12 @@ public:
 
     constexpr Bytes(const std::uint8_t* data, std::size_t size) noexcept : data_(data), size_(size) {}
 
-    template <std::size_t N>
-    constexpr Bytes(const std::uint8_t (&array)[N]) noexcept : data_(array), size_(N) {}
+    template <std::size_t N> constexpr Bytes(const std::uint8_t (&array)[N]) noexcept : data_(array), size_(N) {}
 
     // From whatever has data() and size(), as std::array, std::vector, std::span and MutableBytes have.
-    template <class Container,
-              class = std::enable_if_t<
-                  std::is_convertible_v<decltype(std::declval<const Container&>().data()), const std::uint8_t*> &&
-                  std::is_convertible_v<decltype(std::declval<const Container&>().size()), std::size_t>>>
-    constexpr Bytes(const Container& container) noexcept : data_(container.data()), size_(container.size()) {}
+    template <class Container, class = detail::IfLends<const Container, const std::uint8_t*>>
+    constexpr Bytes(const Container& container) noexcept : data_(container.data()), size_(container.size())
+    {}
 
     [[nodiscard]] constexpr const std::uint8_t* data() const noexcept { return data_; }
     [[nodiscard]] constexpr std::size_t size() const noexcept { return size_; }
@@ -76,15 +82,12 @@ public:
 
     constexpr MutableBytes(std::uint8_t* data, std::size_t size) noexcept : data_(data), size_(size) {}
 
-    template <std::size_t N>
-    constexpr MutableBytes(std::uint8_t (&array)[N]) noexcept : data_(array), size_(N) {}
+    template <std::size_t N> constexpr MutableBytes(std::uint8_t (&array)[N]) noexcept : data_(array), size_(N) {}
 
     // From whatever has data() and size(). No temporaries: what is written into one would be lost.
-    template <class Container,
-              class = std::enable_if_t<
-                  std::is_convertible_v<decltype(std::declval<Container&>().data()), std::uint8_t*> &&
-                  std::is_convertible_v<decltype(std::declval<Container&>().size()), std::size_t>>>
-    constexpr MutableBytes(Container& container) noexcept : data_(container.data()), size_(container.size()) {}
+    template <class Container, class = detail::IfLends<Container, std::uint8_t*>>
+    constexpr MutableBytes(Container& container) noexcept : data_(container.data()), size_(container.size())
+    {}
 
     [[nodiscard]] constexpr std::uint8_t* data() const noexcept { return data_; }
     [[nodiscard]] constexpr std::size_t size() const noexcept { return size_; }
@@ -94,8 +97,8 @@ private:
     std::size_t size_ = 0;
 };
 
-// What a call answered. The third number means something else at each call, so each call whose third number counts
-// has its own kind of answer: joins can't be read as a verdict.
+// What a call answered. The third number means something else at each call, so each call whose third number counts has
+// its own kind of answer: joins can't be read as a verdict.
 struct Answer {
     Reply reply;
     std::uint32_t place;
@@ -113,9 +116,8 @@ struct AskAnswer : Answer {
     // Empty when refused: a refused rule has no verdict.
     [[nodiscard]] constexpr std::optional<Verdict> verdict() const noexcept
     {
-        if (!done()) {
+        if (!done())
             return std::nullopt;
-        }
         return static_cast<Verdict>(third);
     }
 };
@@ -140,8 +142,8 @@ public:
     // Goes on with a stored block.
     constexpr explicit Session(const Block& block) noexcept : block_(block) {}
 
-    // Opens the session anew with v joints and the meet table of n kinds; refused, the session stays as it was.
-    // The table may not lie in this session's own block.
+    // Opens the session anew with v joints and the meet table of n kinds; refused, the session stays as it was. The
+    // table may not lie in this session's own block.
     [[nodiscard]] Answer open(std::uint64_t n, std::uint64_t v, Bytes table) noexcept
     {
         return answer_of(rig_open(n, v, table.data(), table.size(), block_.data(), block_.size()));
@@ -181,6 +183,6 @@ private:
     return table;
 }
 
-}  // namespace vornulica
+} // namespace vornulica
 
 #endif

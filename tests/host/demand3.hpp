@@ -1,6 +1,5 @@
-// Demand 3 tried directly, without a second implementation to compare with: the
-// order, the splitting and the repeating of facts must not show, decided
-// verdicts stay, a clash stays a clash, and the solved form gives the block back.
+// Demand 3 tried directly, without a second implementation to compare with: the order, the splitting and the repeating
+// of facts must not show, decided verdicts stay, a clash stays a clash, and the solved form gives the block back.
 
 #ifndef HOST_DEMAND3_HPP
 #define HOST_DEMAND3_HPP
@@ -12,9 +11,9 @@
 namespace host {
 
 class Demand3 {
-  public:
+public:
     // One round from one seed; gives a description of what fails, or nothing.
-    static std::string failing(const paper::Calls &calls, std::uint64_t seed, size_t &calls_made)
+    static std::string failing(const paper::Calls& calls, std::uint64_t seed, size_t& calls_made)
     {
         Demand3 round(calls, seed);
         std::string problem = round.orders();
@@ -26,12 +25,11 @@ class Demand3 {
         return problem.empty() ? "" : "demand 3, seed " + std::to_string(seed) + ": " + problem;
     }
 
-  private:
-    Demand3(const paper::Calls &implementation, std::uint64_t seed)
+private:
+    Demand3(const paper::Calls& implementation, std::uint64_t seed)
         : calls(implementation), random(seed ^ 0x6f7264657273), kinds(random_kinds(random)),
           v(random_joint_count(random)), hidden(random_picture(kinds, v, random))
-    {
-    }
+    {}
 
     Bytes opened()
     {
@@ -40,19 +38,19 @@ class Demand3 {
         calls.open(kinds.n, v, kinds.table.data(), kinds.table.size(), block.data(), block.size());
         return block;
     }
-    Answer take(Bytes &block, const Bytes &packet)
+    Answer take(Bytes& block, const Bytes& packet)
     {
         made++;
         return {calls.take(block.data(), block.size(), packet.data(), packet.size())};
     }
-    Answer ask(const Bytes &block, const Bytes &packet)
+    Answer ask(const Bytes& block, const Bytes& packet)
     {
         made++;
         return {calls.ask(block.data(), block.size(), packet.data(), packet.size())};
     }
 
     // The facts in this order, cut into packets of any sizes.
-    std::vector<Bytes> packets(const std::vector<Fact> &facts, size_t most_in_one)
+    std::vector<Bytes> packets(const std::vector<Fact>& facts, size_t most_in_one)
     {
         std::vector<Bytes> list;
         for (size_t from = 0; from < facts.size();) {
@@ -70,15 +68,14 @@ class Demand3 {
         random.shuffle(facts);
         return facts;
     }
-    std::vector<Bytes> some_rules(const Bytes &block, size_t count)
+    std::vector<Bytes> some_rules(const Bytes& block, size_t count)
     {
         std::vector<Bytes> rules;
         for (size_t i = 0; i < count; i++) {
             const size_t roll = random.below(100);
-            Rule rule = roll < 35 ? holding_rule(kinds, v, hidden, random)
-                        : roll < 70
-                            ? holding_rule(kinds, v, picture_of_block(kinds, v, block), random)
-                            : any_rule(kinds.n, v, random);
+            Rule rule = roll < 35   ? holding_rule(kinds, v, hidden, random)
+                        : roll < 70 ? holding_rule(kinds, v, picture_of_block(kinds, v, block), random)
+                                    : any_rule(kinds.n, v, random);
             if (random.chance(60))
                 unsettle(rule, kinds, v, random);
             rules.push_back(rule.packet());
@@ -86,7 +83,7 @@ class Demand3 {
         return rules;
     }
 
-    std::string solved_form_gives_it_back(const Bytes &block)
+    std::string solved_form_gives_it_back(const Bytes& block)
     {
         Bytes form(longest_solved_form);
         made++;
@@ -115,13 +112,12 @@ class Demand3 {
         std::vector<Bytes> rules;
         std::vector<std::uint64_t> answers;
         for (size_t order = 0; order < 4; order++) {
-            const std::vector<Fact> sent =
-                order == 0 ? facts : order == 1 ? facts : mixed_with_repeats(facts);
+            const std::vector<Fact> sent = order == 0 ? facts : order == 1 ? facts : mixed_with_repeats(facts);
             const size_t most_in_one = order == 0 ? facts.size() : order == 1 ? 1 : 8;
             Bytes block = opened();
             size_t joins = 0;
             std::map<size_t, unsigned> decided;
-            for (const Bytes &packet : packets(sent, most_in_one)) {
+            for (const Bytes& packet : packets(sent, most_in_one)) {
                 const Answer answer = take(block, packet);
                 if (answer.number() != 0)
                     return "facts of one picture were answered with " + answer.text();
@@ -140,7 +136,7 @@ class Demand3 {
                 first = block;
                 first_joins = joins;
                 rules = some_rules(block, 10);
-                for (const Bytes &rule : rules)
+                for (const Bytes& rule : rules)
                     answers.push_back(ask(block, rule).packed);
                 const std::string problem = solved_form_gives_it_back(block);
                 if (!problem.empty())
@@ -163,14 +159,13 @@ class Demand3 {
     {
         std::vector<Fact> facts;
         for (size_t count = random.between(2, 30); count > 0; count--)
-            facts.push_back(random.chance(80) ? holding_fact(kinds, v, hidden, random)
-                                              : any_fact(kinds.n, v, random));
+            facts.push_back(random.chance(80) ? holding_fact(kinds, v, hidden, random) : any_fact(kinds.n, v, random));
         Bytes together = opened();
         const bool satisfiable = take(together, facts_packet(v, facts)).number() == 0;
 
         Bytes block = opened();
         std::vector<Bytes> taken, refused;
-        for (const Bytes &packet : packets(mixed_with_repeats(facts), 4)) {
+        for (const Bytes& packet : packets(mixed_with_repeats(facts), 4)) {
             const Bytes before = block;
             const Answer answer = take(block, packet);
             if (answer.number() != 0 && answer.number() != 11)
@@ -179,7 +174,7 @@ class Demand3 {
                 return "a refused packet changed the block";
             (answer.number() == 0 ? taken : refused).push_back(packet);
             const Bytes after = block;
-            for (const Bytes &again : refused)
+            for (const Bytes& again : refused)
                 if (take(block, again).number() != 11)
                     return "a packet that clashed was taken later";
             if (block != after)
@@ -192,7 +187,7 @@ class Demand3 {
 
         random.shuffle(taken);
         Bytes again = opened();
-        for (const Bytes &packet : taken)
+        for (const Bytes& packet : taken)
             if (take(again, packet).number() != 0)
                 return "packets that were taken clash in another order";
         if (again != block)
@@ -201,12 +196,9 @@ class Demand3 {
     }
 
     // A block that somebody else wrote is its solved form and nothing more.
-    std::string foreign()
-    {
-        return solved_form_gives_it_back(foreign_block(kinds, v, random));
-    }
+    std::string foreign() { return solved_form_gives_it_back(foreign_block(kinds, v, random)); }
 
-    const paper::Calls &calls;
+    const paper::Calls& calls;
     Random random;
     Kinds kinds;
     size_t v;

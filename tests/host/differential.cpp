@@ -1,6 +1,5 @@
-// The library against the plain version: random sessions from fixed seeds, and
-// small inputs gone through one by one. Then, without the plain version, the
-// examples of document 01, small sessions by the meaning, and demand 3.
+// The library against the plain version: random sessions from fixed seeds, and small inputs gone through one by one.
+// Then, without the plain version, the examples of document 01, small sessions by the meaning, and demand 3.
 //
 //   differential [--calls N]     at least N random calls, 250,000 if not given
 //   differential --session K     one session again, each of its calls described
@@ -30,12 +29,12 @@ const paper::Calls library = {rig_open, rig_take, rig_ask, rig_write, rig_house}
 // ----------------------------------------------------- where the run stands
 
 // Told even when a call dies or does not end, both of which are failures.
-const char *volatile at_part = "";
+const char* volatile at_part = "";
 volatile std::sig_atomic_t at_session = 0;
 volatile std::sig_atomic_t at_call = 0;
 constexpr unsigned longest_session_seconds = 120;
 
-void now_at(const char *part, std::uint64_t session)
+void now_at(const char* part, std::uint64_t session)
 {
     at_part = part;
     at_session = static_cast<std::sig_atomic_t>(session);
@@ -54,7 +53,7 @@ void write_number(long number)
     if (write(2, digits + at, sizeof digits - at) < 0)
         _exit(3);
 }
-void write_text(const char *text)
+void write_text(const char* text)
 {
     if (write(2, text, std::strlen(text)) < 0)
         _exit(3);
@@ -91,15 +90,15 @@ void watch_signals()
 
 // What the stream of calls hit, by the plain version's answers.
 class Coverage {
-  public:
-    void count(const Call &call, const Answer &answer)
+public:
+    void count(const Call& call, const Answer& answer)
     {
         replies[static_cast<size_t>(call.name)][answer.number() % number_count]++;
-        const Bytes &packet = call.lent[packet_slot].bytes;
-        const Bytes &block = call.lent[block_slot].bytes;
+        const Bytes& packet = call.lent[packet_slot].bytes;
+        const Bytes& block = call.lent[block_slot].bytes;
         if (answer.number() == 7)
-            hit(std::string("reply 7 at ") + name_text[static_cast<size_t>(call.name)] +
-                ", place " + std::to_string(answer.place()));
+            hit(std::string("reply 7 at ") + name_text[static_cast<size_t>(call.name)] + ", place " +
+                std::to_string(answer.place()));
         if (call.name == Name::ask && answer.number() == 0) {
             verdicts[answer.third() % verdict_count]++;
             if (packet[4] == most_ties)
@@ -123,8 +122,7 @@ class Coverage {
             if (answer.third() >= 32)
                 hit("32 joins or more at once");
         }
-        if (call.name == Name::take && answer.number() == 8 &&
-            packet.size() == longest_solved_form + 4)
+        if (call.name == Name::take && answer.number() == 8 && packet.size() == longest_solved_form + 4)
             hit("1,089 facts refused");
         if (answer.number() == 8 && packet.size() > 60000)
             hit("over 60,000 bytes refused");
@@ -167,10 +165,9 @@ class Coverage {
                     std::printf("%7zu", replies[name][number]);
             std::printf("\n");
         }
-        std::printf("  verdicts   applies %zu, ruled out %zu, waits %zu\n", verdicts[1],
-                    verdicts[2], verdicts[3]);
+        std::printf("  verdicts   applies %zu, ruled out %zu, waits %zu\n", verdicts[1], verdicts[2], verdicts[3]);
         std::string line = "  also hit  ";
-        for (const auto &[what, times] : hits) {
+        for (const auto& [what, times] : hits) {
             const std::string item = " " + what + ": " + std::to_string(times) + ";";
             if (line.size() + item.size() > 100) {
                 std::printf("%s\n", line.c_str());
@@ -185,37 +182,53 @@ class Coverage {
     std::string missing() const
     {
         static const std::vector<size_t> possible[name_count] = {
-            {0, 1, 2, 3}, {0, 1, 4, 5, 6, 7, 8, 9, 11}, {0, 1, 4, 5, 6, 7, 8, 9, 10}, {0, 1, 4, 12},
-            {0, 1}};
+            {0, 1, 2, 3}, {0, 1, 4, 5, 6, 7, 8, 9, 11}, {0, 1, 4, 5, 6, 7, 8, 9, 10}, {0, 1, 4, 12}, {0, 1}};
         std::string text;
         for (size_t name = 0; name < name_count; name++)
             for (const size_t number : possible[name])
                 if (replies[name][number] == 0)
-                    text += std::string("  never hit: reply ") + std::to_string(number) + " at " +
-                            name_text[name] + "\n";
+                    text +=
+                        std::string("  never hit: reply ") + std::to_string(number) + " at " + name_text[name] + "\n";
         for (size_t verdict = 1; verdict < verdict_count; verdict++)
             if (verdicts[verdict] == 0)
                 text += "  never hit: verdict " + std::to_string(verdict) + "\n";
-        for (const char *what :
-             {"reply 7 at take, place 3", "reply 7 at take, place 4", "reply 7 at take, place 5",
-              "reply 7 at ask, place 3", "reply 7 at ask, place 4", "reply 7 at ask, place 5",
-              "a rule of 8 ties", "a rule of 32 joints", "a rule of 1,088 facts",
-              "a rule at V = 64", "1,088 facts taken", "no facts taken", "facts taken at n = 64",
-              "facts taken at V = 64", "32 joins or more at once", "1,089 facts refused",
-              "over 60,000 bytes refused", "an output of just the length",
-              "a solved form of over 4,000 bytes", "null output", "null packet", "null block",
-              "null table", "n beyond 32 bits", "V beyond 32 bits", "opened with n = 2",
-              "opened with n = 64"})
+        for (const char* what : {"reply 7 at take, place 3",
+                                 "reply 7 at take, place 4",
+                                 "reply 7 at take, place 5",
+                                 "reply 7 at ask, place 3",
+                                 "reply 7 at ask, place 4",
+                                 "reply 7 at ask, place 5",
+                                 "a rule of 8 ties",
+                                 "a rule of 32 joints",
+                                 "a rule of 1,088 facts",
+                                 "a rule at V = 64",
+                                 "1,088 facts taken",
+                                 "no facts taken",
+                                 "facts taken at n = 64",
+                                 "facts taken at V = 64",
+                                 "32 joins or more at once",
+                                 "1,089 facts refused",
+                                 "over 60,000 bytes refused",
+                                 "an output of just the length",
+                                 "a solved form of over 4,000 bytes",
+                                 "null output",
+                                 "null packet",
+                                 "null block",
+                                 "null table",
+                                 "n beyond 32 bits",
+                                 "V beyond 32 bits",
+                                 "opened with n = 2",
+                                 "opened with n = 64"})
             if (hits.count(what) == 0)
                 text += std::string("  never hit: ") + what + "\n";
         return text;
     }
 
-  private:
+private:
     static constexpr size_t number_count = 13;
     static constexpr size_t verdict_count = 4;
 
-    void hit(const std::string &what) { hits[what]++; }
+    void hit(const std::string& what) { hits[what]++; }
 
     size_t replies[name_count][number_count] = {};
     size_t verdicts[verdict_count] = {};
@@ -224,16 +237,16 @@ class Coverage {
 
 // ------------------------------------------------------------ random sessions
 
-Bytes block_left(const Side &side)
+Bytes block_left(const Side& side)
 {
-    const LentMemory &memory = side.memory[block_slot];
+    const LentMemory& memory = side.memory[block_slot];
     return Bytes(memory.bytes(), memory.bytes() + memory.length());
 }
 
 constexpr size_t most_differences_shown = 5;
 
-bool library_agrees(std::uint64_t number, Side &tried, Side &plain, Coverage &coverage,
-                    size_t &calls_made, bool describe)
+bool library_agrees(std::uint64_t number, Side& tried, Side& plain, Coverage& coverage, size_t& calls_made,
+                    bool describe)
 {
     Session session(number);
     Bytes block;
@@ -249,9 +262,8 @@ bool library_agrees(std::uint64_t number, Side &tried, Side &plain, Coverage &co
             std::printf("call %d: %s\n%s", static_cast<int>(at_call), plain.answer.text().c_str(),
                         description(call).c_str());
         if (!differs.empty()) {
-            std::printf("session of seed %llu, call %d:\n%s%s",
-                        static_cast<unsigned long long>(number), static_cast<int>(at_call),
-                        description(call).c_str(), differs.c_str());
+            std::printf("session of seed %llu, call %d:\n%s%s", static_cast<unsigned long long>(number),
+                        static_cast<int>(at_call), description(call).c_str(), differs.c_str());
             return false;
         }
         if (call.goes_on)
@@ -261,11 +273,11 @@ bool library_agrees(std::uint64_t number, Side &tried, Side &plain, Coverage &co
 }
 
 // The small inputs of sweep.hpp; gives how many calls differ.
-size_t sweep_differing(Side &tried, Side &plain, size_t &calls_made)
+size_t sweep_differing(Side& tried, Side& plain, size_t& calls_made)
 {
     size_t differing = 0;
     now_at("small inputs ", 0);
-    Sweep([&](const Call &call) {
+    Sweep([&](const Call& call) {
         calls_made++;
         at_call = at_call + 1;
         plain.made(call);
@@ -274,8 +286,8 @@ size_t sweep_differing(Side &tried, Side &plain, size_t &calls_made)
         if (differs.empty())
             return;
         if (differing++ < most_differences_shown)
-            std::printf("small inputs, call %d:\n%s%s", static_cast<int>(at_call),
-                        description(call).c_str(), differs.c_str());
+            std::printf("small inputs, call %d:\n%s%s", static_cast<int>(at_call), description(call).c_str(),
+                        differs.c_str());
     });
     return differing;
 }
@@ -287,9 +299,9 @@ bool compare_with_library(size_t calls_wanted)
 {
     bool good = true;
     now_at("the examples ", 0);
-    for (const auto &[name, calls] : {std::pair<const char *, const paper::Calls *>{
-                                          "the plain version", &paper::calls(Fault::none)},
-                                      {"the library", &library}}) {
+    for (const auto& [name, calls] :
+         {std::pair<const char*, const paper::Calls*>{"the plain version", &paper::calls(Fault::none)},
+          {"the library", &library}}) {
         const std::string failing = Examples::failing(*calls);
         if (!failing.empty()) {
             std::printf("examples that %s gives otherwise: %s\n", name, failing.c_str());
@@ -297,8 +309,8 @@ bool compare_with_library(size_t calls_wanted)
         }
     }
     now_at("the meaning ", 0);
-    const std::string off_meaning = Meaning::failing(
-        library, std::min(meaning_sessions, calls_wanted / calls_to_a_meaning_session));
+    const std::string off_meaning =
+        Meaning::failing(library, std::min(meaning_sessions, calls_wanted / calls_to_a_meaning_session));
     if (!off_meaning.empty()) {
         std::printf("%s\n", off_meaning.c_str());
         good = false;
@@ -328,9 +340,8 @@ bool compare_with_library(size_t calls_wanted)
     alarm(0);
     std::printf("differential: %zu random calls in %llu sessions, %zu on small inputs, "
                 "%zu of demand 3 in %llu rounds, %zu differing\n",
-                calls_made, static_cast<unsigned long long>(sessions), swept_calls,
-                demand3_calls, static_cast<unsigned long long>(rounds),
-                differing + swept_differing);
+                calls_made, static_cast<unsigned long long>(sessions), swept_calls, demand3_calls,
+                static_cast<unsigned long long>(rounds), differing + swept_differing);
     coverage.print();
     if (differing > 0 || swept_differing > 0)
         return false; // cut short, so that what was missed says nothing
@@ -358,7 +369,7 @@ bool self_check(size_t, bool)
 }
 #else
 
-const std::vector<Fault> &all_faults()
+const std::vector<Fault>& all_faults()
 {
     static const std::vector<Fault> list = [] {
         std::vector<Fault> faults;
@@ -398,11 +409,9 @@ bool faults_caught_by_stream(size_t most_calls, bool verbose)
                     i++;
                     continue;
                 }
-                last = paper::fault_name(hidden[i]) + std::string(" at call ") +
-                       std::to_string(calls_made);
+                last = paper::fault_name(hidden[i]) + std::string(" at call ") + std::to_string(calls_made);
                 if (verbose)
-                    std::printf("  %s (%s)\n", last.c_str(),
-                                name_text[static_cast<size_t>(call.name)]);
+                    std::printf("  %s (%s)\n", last.c_str(), name_text[static_cast<size_t>(call.name)]);
                 hidden.erase(hidden.begin() + static_cast<std::ptrdiff_t>(i));
             }
             if (call.goes_on)
@@ -410,17 +419,15 @@ bool faults_caught_by_stream(size_t most_calls, bool verbose)
         }
     }
     for (const Fault fault : hidden)
-        std::printf("  %-30s NOT caught in %zu random calls\n", paper::fault_name(fault),
-                    calls_made);
+        std::printf("  %-30s NOT caught in %zu random calls\n", paper::fault_name(fault), calls_made);
     std::printf("self-check: %zu of %zu faults caught by random calls, the last one %s\n",
                 all_faults().size() - hidden.size(), all_faults().size(), last.c_str());
     return hidden.empty();
 }
 
-// Tries a check that needs no second implementation: it must pass the plain
-// version, and these faults, which concern what it checks, must fail it.
-template <typename Check>
-bool check_tells_apart(const char *name, Check failing, const std::set<Fault> &must_fail)
+// Tries a check that needs no second implementation: it must pass the plain version, and these faults, which concern
+// what it checks, must fail it.
+template <typename Check> bool check_tells_apart(const char* name, Check failing, const std::set<Fault>& must_fail)
 {
     bool good = true;
     const std::string plain = failing(paper::calls(Fault::none));
@@ -434,8 +441,8 @@ bool check_tells_apart(const char *name, Check failing, const std::set<Fault> &m
             caught++;
         else
             std::printf("  %s does not catch %s\n", name, paper::fault_name(fault));
-    std::printf("self-check: %s: the plain version %s, %zu of %zu faults caught\n", name,
-                good ? "passes" : "FAILS", caught, must_fail.size());
+    std::printf("self-check: %s: the plain version %s, %zu of %zu faults caught\n", name, good ? "passes" : "FAILS",
+                caught, must_fail.size());
     return good && caught == must_fail.size();
 }
 
@@ -446,10 +453,8 @@ bool tables_are_lawful()
         Random random(seed);
         const Kinds kinds = random_kinds(random);
         Bytes block(block_length);
-        if (paper::open(kinds.n, 1, kinds.table.data(), kinds.table.size(), block.data(),
-                        block.size()) != 0) {
-            std::printf("  the table of seed %llu is not lawful\n",
-                        static_cast<unsigned long long>(seed));
+        if (paper::open(kinds.n, 1, kinds.table.data(), kinds.table.size(), block.data(), block.size()) != 0) {
+            std::printf("  the table of seed %llu is not lawful\n", static_cast<unsigned long long>(seed));
             return false;
         }
     }
@@ -458,12 +463,12 @@ bool tables_are_lawful()
 
 // A write beside the buffer must show, on either side of it.
 #if !defined(__SANITIZE_ADDRESS__) // which would end the run at such a write
-std::uint64_t house_writing_before(std::uint8_t *table, std::size_t)
+std::uint64_t house_writing_before(std::uint8_t* table, std::size_t)
 {
     *(table - 1) ^= 1;
     return 0;
 }
-std::uint64_t house_writing_after(std::uint8_t *table, std::size_t size)
+std::uint64_t house_writing_after(std::uint8_t* table, std::size_t size)
 {
     table[size] ^= 1;
     return 0;
@@ -475,7 +480,7 @@ bool guards_work()
     call.lent[table_slot].used = true;
     call.lent[table_slot].bytes.assign(house_length, 7);
     paper::Calls silent = paper::calls(Fault::none);
-    silent.house = [](std::uint8_t *, std::size_t) { return std::uint64_t{0}; };
+    silent.house = [](std::uint8_t*, std::size_t) { return std::uint64_t{0}; };
     Side expected(silent);
     expected.made(call);
     bool good = true;
@@ -497,37 +502,34 @@ bool guards_work() { return true; }
 bool self_check(size_t most_calls, bool verbose)
 {
     bool good = guards_work() && tables_are_lawful();
-    good &= check_tells_apart(
-        "the examples of 01", [](const paper::Calls &calls) { return Examples::failing(calls); },
-        {Fault::joins_stop_at_links, Fault::unknown_link_rules_out,
-         Fault::kinds_compared_for_equality, Fault::clash_keeps_earlier_facts,
-         Fault::class_named_by_largest, Fault::always_waits, Fault::refuses_every_packet,
-         Fault::stores_nothing, Fault::takes_first_packet_only, Fault::invented_joins,
-         Fault::facts_1089_pass, Fault::facts_1088_refused, Fault::kind_any_written,
-         Fault::rest_of_output_cleared, Fault::house_meet_by_largest_number});
-    good &= check_tells_apart(
-        "the meaning by all pictures",
-        [](const paper::Calls &calls) { return Meaning::failing(calls, meaning_sessions); },
-        {Fault::joins_stop_at_links, Fault::unknown_link_rules_out,
-         Fault::kinds_compared_for_equality, Fault::clash_keeps_earlier_facts,
-         Fault::class_named_by_largest, Fault::always_waits, Fault::refuses_every_packet,
-         Fault::stores_nothing, Fault::takes_first_packet_only, Fault::invented_joins,
-         Fault::kind_zero_refused, Fault::rule_joins_stop_at_links, Fault::repeated_tie_ignored,
-         Fault::new_link_still_applies, Fault::new_kind_still_applies,
-         Fault::new_join_still_applies, Fault::ask_stores});
-    good &= check_tells_apart(
-        "demand 3",
-        [](const paper::Calls &calls) {
-            std::string problem;
-            size_t calls_made = 0;
-            for (std::uint64_t seed = 0; seed < 300 && problem.empty(); seed++)
-                problem = Demand3::failing(calls, seed, calls_made);
-            return problem;
-        },
-        {Fault::joins_stop_at_links, Fault::unknown_link_rules_out,
-         Fault::clash_keeps_earlier_facts, Fault::class_named_by_largest,
-         Fault::refuses_every_packet, Fault::takes_first_packet_only, Fault::invented_joins,
-         Fault::last_link_forgotten, Fault::ask_stores});
+    good &= check_tells_apart("the examples of 01", [](const paper::Calls& calls) { return Examples::failing(calls); },
+                              {Fault::joins_stop_at_links, Fault::unknown_link_rules_out,
+                               Fault::kinds_compared_for_equality, Fault::clash_keeps_earlier_facts,
+                               Fault::class_named_by_largest, Fault::always_waits, Fault::refuses_every_packet,
+                               Fault::stores_nothing, Fault::takes_first_packet_only, Fault::invented_joins,
+                               Fault::facts_1089_pass, Fault::facts_1088_refused, Fault::kind_any_written,
+                               Fault::rest_of_output_cleared, Fault::house_meet_by_largest_number});
+    good &= check_tells_apart("the meaning by all pictures",
+                              [](const paper::Calls& calls) { return Meaning::failing(calls, meaning_sessions); },
+                              {Fault::joins_stop_at_links, Fault::unknown_link_rules_out,
+                               Fault::kinds_compared_for_equality, Fault::clash_keeps_earlier_facts,
+                               Fault::class_named_by_largest, Fault::always_waits, Fault::refuses_every_packet,
+                               Fault::stores_nothing, Fault::takes_first_packet_only, Fault::invented_joins,
+                               Fault::kind_zero_refused, Fault::rule_joins_stop_at_links, Fault::repeated_tie_ignored,
+                               Fault::new_link_still_applies, Fault::new_kind_still_applies,
+                               Fault::new_join_still_applies, Fault::ask_stores});
+    good &=
+        check_tells_apart("demand 3",
+                          [](const paper::Calls& calls) {
+                              std::string problem;
+                              size_t calls_made = 0;
+                              for (std::uint64_t seed = 0; seed < 300 && problem.empty(); seed++)
+                                  problem = Demand3::failing(calls, seed, calls_made);
+                              return problem;
+                          },
+                          {Fault::joins_stop_at_links, Fault::unknown_link_rules_out, Fault::clash_keeps_earlier_facts,
+                           Fault::class_named_by_largest, Fault::refuses_every_packet, Fault::takes_first_packet_only,
+                           Fault::invented_joins, Fault::last_link_forgotten, Fault::ask_stores});
     good &= faults_caught_by_stream(most_calls, verbose);
     return good;
 }
@@ -536,7 +538,7 @@ bool self_check(size_t most_calls, bool verbose)
 
 } // namespace
 
-int main(int argc, char **argv)
+int main(int argc, char** argv)
 {
     watch_signals();
     bool self = false;

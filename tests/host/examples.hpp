@@ -8,9 +8,9 @@
 namespace host {
 
 class Examples {
-  public:
+public:
     // Gives the names of the examples that come out otherwise; empty if none do.
-    static std::string failing(const paper::Calls &calls)
+    static std::string failing(const paper::Calls& calls)
     {
         Examples examples(calls);
         examples.house_table();
@@ -20,16 +20,15 @@ class Examples {
         return examples.failed;
     }
 
-  private:
-    explicit Examples(const paper::Calls &implementation) : calls(implementation) {}
+private:
+    explicit Examples(const paper::Calls& implementation) : calls(implementation) {}
 
-    void expect(const char *name, bool holds)
+    void expect(const char* name, bool holds)
     {
         if (!holds)
             failed += std::string(failed.empty() ? "" : ", ") + name;
     }
-    static std::uint64_t reply(std::uint64_t number, std::uint64_t place = 0,
-                               std::uint64_t third = 0)
+    static std::uint64_t reply(std::uint64_t number, std::uint64_t place = 0, std::uint64_t third = 0)
     {
         return number + 256 * third + (place << 32);
     }
@@ -43,16 +42,15 @@ class Examples {
     {
         const Bytes table = house();
         Bytes block(block_length, 0xee);
-        expect("open", calls.open(33, v, table.data(), table.size(), block.data(),
-                                  block.size()) == reply(0));
+        expect("open", calls.open(33, v, table.data(), table.size(), block.data(), block.size()) == reply(0));
         return block;
     }
-    std::uint64_t take(Bytes &block, const std::vector<Fact> &facts)
+    std::uint64_t take(Bytes& block, const std::vector<Fact>& facts)
     {
         const Bytes packet = facts_packet(block[1], facts);
         return calls.take(block.data(), block.size(), packet.data(), packet.size());
     }
-    std::uint64_t ask(const Bytes &block, const Rule &rule)
+    std::uint64_t ask(const Bytes& block, const Rule& rule)
     {
         const Bytes packet = rule.packet();
         return calls.ask(block.data(), block.size(), packet.data(), packet.size());
@@ -65,9 +63,8 @@ class Examples {
         expect("P2", table[3 * 33 + 17] == 26);
         expect("P3", table[11 * 33 + 18] == 0);
         Bytes short_of_one(house_length - 1, 0xee);
-        expect("house of 1,088 bytes",
-               calls.house(short_of_one.data(), short_of_one.size()) == reply(1) &&
-                   short_of_one == Bytes(house_length - 1, 0xee));
+        expect("house of 1,088 bytes", calls.house(short_of_one.data(), short_of_one.size()) == reply(1) &&
+                                           short_of_one == Bytes(house_length - 1, 0xee));
     }
 
     const std::vector<Fact> f = {has_kind(0, 9),      has_kind(0, 2),  link_leads(0, 1, 1),
@@ -86,15 +83,12 @@ class Examples {
         wanted.resize(30, 0xee);
         expect("P5", written == reply(0, 0, 22) && out == wanted);
         out.assign(21, 0xee);
-        expect("P5 in 21 bytes", calls.write(block.data(), block.size(), out.data(), 21) ==
-                                         reply(12) &&
-                                     out == Bytes(21, 0xee));
+        expect("P5 in 21 bytes",
+               calls.write(block.data(), block.size(), out.data(), 21) == reply(12) && out == Bytes(21, 0xee));
 
         const std::vector<Tie> tied = {{0, 0}};
-        expect("P6", ask(block, {2, tied, {has_kind(0, 9), link_leads(0, 1, 1), has_kind(1, 2)}}) ==
-                         reply(0, 0, 1));
-        expect("P7", ask(block, {2, tied, {has_kind(0, 9), link_leads(0, 1, 1), has_kind(1, 3)}}) ==
-                         reply(0, 0, 2));
+        expect("P6", ask(block, {2, tied, {has_kind(0, 9), link_leads(0, 1, 1), has_kind(1, 2)}}) == reply(0, 0, 1));
+        expect("P7", ask(block, {2, tied, {has_kind(0, 9), link_leads(0, 1, 1), has_kind(1, 3)}}) == reply(0, 0, 2));
         expect("P8", ask(block, {1, tied, {has_kind(0, 21)}}) == reply(0, 0, 3));
         expect("P9", ask(block, {2, tied, {link_leads(0, 2, 1)}}) == reply(0, 0, 3));
         expect("P10", ask(block, {1, {{0, 1}, {0, 2}}, {}}) == reply(0, 0, 1));
@@ -113,8 +107,7 @@ class Examples {
                                 : n == 65 ? Bytes(65 * 65, 0)
                                           : chain_kinds(static_cast<size_t>(n), random).table;
             Bytes block(block_length, 0xee);
-            const std::uint64_t answer = calls.open(n, 4, table.data(), table.size(),
-                                                    block.data(), block.size());
+            const std::uint64_t answer = calls.open(n, 4, table.data(), table.size(), block.data(), block.size());
             expect("n of 1, 2, 64 and 65", answer == reply(n == 1 || n == 65 ? 1 : 0));
         }
         Bytes block = opened(64);
@@ -129,8 +122,7 @@ class Examples {
     void errors()
     {
         // In each order, for only some of them have the join run on through links.
-        std::vector<Fact> facts = {link_leads(0, 1, 1), link_leads(0, 1, 2), link_leads(1, 2, 3),
-                                   link_leads(2, 2, 4)};
+        std::vector<Fact> facts = {link_leads(0, 1, 1), link_leads(0, 1, 2), link_leads(1, 2, 3), link_leads(2, 2, 4)};
         std::sort(facts.begin(), facts.end());
         do {
             Bytes block = opened(5);
@@ -145,16 +137,14 @@ class Examples {
 
         block = opened(4);
         const Bytes before = block;
-        expect("error 4", take(block, {has_kind(0, 11), is_one_with(1, 2), has_kind(0, 18)}) ==
-                                  reply(11) &&
-                              block == before);
+        expect("error 4",
+               take(block, {has_kind(0, 11), is_one_with(1, 2), has_kind(0, 18)}) == reply(11) && block == before);
 
         take(block, {is_one_with(3, 1), is_one_with(1, 2)});
-        expect("error 5", block[classes_at + 1] == 1 && block[classes_at + 2] == 1 &&
-                              block[classes_at + 3] == 1);
+        expect("error 5", block[classes_at + 1] == 1 && block[classes_at + 2] == 1 && block[classes_at + 3] == 1);
     }
 
-    const paper::Calls &calls;
+    const paper::Calls& calls;
     std::string failed;
 };
 

@@ -1,7 +1,6 @@
-// Deterministic calls for the tests: lawful kind tables, rigs, rules of each
-// verdict, and inputs damaged in every way that the table of replies names.
-// A session's calls depend on its seed and on the blocks that earlier calls
-// left, on nothing else, so a failure can be repeated from its seed.
+// Deterministic calls for the tests: lawful kind tables, rigs, rules of each verdict, and inputs damaged in every way
+// that the table of replies names. A session's calls depend on its seed and on the blocks that earlier calls left, on
+// nothing else, so a failure can be repeated from its seed.
 
 #ifndef HOST_GENERATE_HPP
 #define HOST_GENERATE_HPP
@@ -37,7 +36,7 @@ constexpr Byte not_known = 255;
 
 // splitmix64
 class Random {
-  public:
+public:
     explicit Random(std::uint64_t seed) : state(seed) {}
 
     std::uint64_t next()
@@ -53,18 +52,18 @@ class Random {
     bool chance(size_t percent) { return below(100) < percent; }
     Byte byte() { return static_cast<Byte>(next()); }
     Byte byte_below(size_t bound) { return static_cast<Byte>(below(bound)); }
-    template <typename List> auto pick(const List &list) { return list[below(list.size())]; }
+    template <typename List> auto pick(const List& list) { return list[below(list.size())]; }
     template <typename Value> Value pick_of(std::initializer_list<Value> list)
     {
         return *(list.begin() + below(list.size()));
     }
-    template <typename List> void shuffle(List &list)
+    template <typename List> void shuffle(List& list)
     {
         for (size_t i = list.size(); i > 1; i--)
             std::swap(list[i - 1], list[below(i)]);
     }
 
-  private:
+private:
     std::uint64_t state;
 };
 
@@ -78,9 +77,9 @@ struct Kinds {
     bool under(size_t i, size_t j) const { return meet(i, j) == i; }
 };
 
-// Sets closed under intersection, with the empty set and the full one, are a
-// lawful table under any numbering that gives these two 0 and 1.
-inline Kinds kinds_from_sets(std::vector<std::uint64_t> sets, Random &random)
+// Sets closed under intersection, with the empty set and the full one, are a lawful table under any numbering that
+// gives these two 0 and 1.
+inline Kinds kinds_from_sets(std::vector<std::uint64_t> sets, Random& random)
 {
     std::vector<std::uint64_t> inner;
     for (const std::uint64_t set : sets)
@@ -101,8 +100,7 @@ inline Kinds kinds_from_sets(std::vector<std::uint64_t> sets, Random &random)
     for (size_t i = 0; i < kinds.n; i++)
         for (size_t j = 0; j < kinds.n; j++) {
             const std::pair<std::uint64_t, Byte> wanted{sets[i] & sets[j], 0};
-            kinds.table[i * kinds.n + j] =
-                std::lower_bound(numbers.begin(), numbers.end(), wanted)->second;
+            kinds.table[i * kinds.n + j] = std::lower_bound(numbers.begin(), numbers.end(), wanted)->second;
         }
     return kinds;
 }
@@ -110,20 +108,20 @@ inline Kinds kinds_from_sets(std::vector<std::uint64_t> sets, Random &random)
 constexpr std::uint64_t low_bits(size_t count) { return (std::uint64_t{1} << count) - 1; }
 
 // Tops the family up to n sets by a chain over all the others but the full one.
-inline void fill_up(std::vector<std::uint64_t> &sets, size_t n, size_t bits_used)
+inline void fill_up(std::vector<std::uint64_t>& sets, size_t n, size_t bits_used)
 {
     for (size_t extra = 1; sets.size() < n; extra++)
         sets.push_back(low_bits(bits_used + extra));
 }
 
-inline Kinds chain_kinds(size_t n, Random &random)
+inline Kinds chain_kinds(size_t n, Random& random)
 {
     std::vector<std::uint64_t> sets = {0, ~std::uint64_t{0}};
     fill_up(sets, n, 0);
     return kinds_from_sets(sets, random);
 }
 
-inline Kinds flat_kinds(size_t n, Random &random)
+inline Kinds flat_kinds(size_t n, Random& random)
 {
     std::vector<std::uint64_t> sets = {0, ~std::uint64_t{0}};
     for (size_t bit = 0; sets.size() < n; bit++)
@@ -131,7 +129,7 @@ inline Kinds flat_kinds(size_t n, Random &random)
     return kinds_from_sets(sets, random);
 }
 
-inline Kinds tree_kinds(size_t n, Random &random)
+inline Kinds tree_kinds(size_t n, Random& random)
 {
     const size_t inner = n - 2;
     std::vector<std::uint64_t> below(inner);
@@ -148,7 +146,7 @@ inline Kinds tree_kinds(size_t n, Random &random)
     return kinds_from_sets(below, random);
 }
 
-inline Kinds product_kinds(size_t n, Random &random)
+inline Kinds product_kinds(size_t n, Random& random)
 {
     size_t width = 2;
     while ((width + 1) * (width + 1) <= n && random.chance(60))
@@ -164,7 +162,7 @@ inline Kinds product_kinds(size_t n, Random &random)
     return kinds_from_sets(sets, random);
 }
 
-inline Kinds family_kinds(size_t n, Random &random)
+inline Kinds family_kinds(size_t n, Random& random)
 {
     const size_t bits = random.between(2, 14);
     std::vector<std::uint64_t> sets = {0, ~std::uint64_t{0}};
@@ -194,7 +192,7 @@ inline Kinds house_kinds()
 }
 
 // Large tables cost the most time, for every call checks all their triples.
-inline size_t random_kind_count(Random &random)
+inline size_t random_kind_count(Random& random)
 {
     const size_t roll = random.below(100);
     if (roll < 8)
@@ -214,7 +212,7 @@ inline size_t random_kind_count(Random &random)
     return random.between(4, 16);
 }
 
-inline Kinds random_kinds(Random &random)
+inline Kinds random_kinds(Random& random)
 {
     if (random.chance(18))
         return house_kinds();
@@ -233,7 +231,7 @@ inline Kinds random_kinds(Random &random)
     }
 }
 
-inline size_t random_joint_count(Random &random)
+inline size_t random_joint_count(Random& random)
 {
     const size_t roll = random.below(100);
     if (roll < 4)
@@ -252,42 +250,31 @@ inline size_t random_joint_count(Random &random)
 using Fact = std::array<Byte, 4>;
 using Tie = std::array<Byte, 2>; // rule joint, rig joint
 
-inline Fact has_kind(size_t a, size_t kind)
-{
-    return {1, static_cast<Byte>(a), static_cast<Byte>(kind), 0};
-}
-inline Fact is_one_with(size_t a, size_t b)
-{
-    return {2, static_cast<Byte>(a), static_cast<Byte>(b), 0};
-}
+inline Fact has_kind(size_t a, size_t kind) { return {1, static_cast<Byte>(a), static_cast<Byte>(kind), 0}; }
+inline Fact is_one_with(size_t a, size_t b) { return {2, static_cast<Byte>(a), static_cast<Byte>(b), 0}; }
 inline Fact link_leads(size_t a, size_t link, size_t c)
 {
     return {3, static_cast<Byte>(a), static_cast<Byte>(link), static_cast<Byte>(c)};
 }
 
-inline void set_length(Bytes &packet)
+inline void set_length(Bytes& packet)
 {
     packet[0] = static_cast<Byte>((packet.size() - 2) / 256);
     packet[1] = static_cast<Byte>((packet.size() - 2) % 256);
 }
 
-inline Bytes make_packet(size_t purpose, size_t joints, const std::vector<Tie> &ties,
-                         const std::vector<Fact> &facts)
+inline Bytes make_packet(size_t purpose, size_t joints, const std::vector<Tie>& ties, const std::vector<Fact>& facts)
 {
-    Bytes packet = {0, 0, 1, static_cast<Byte>(purpose), static_cast<Byte>(ties.size()),
-                    static_cast<Byte>(joints)};
-    for (const Tie &tie : ties)
+    Bytes packet = {0, 0, 1, static_cast<Byte>(purpose), static_cast<Byte>(ties.size()), static_cast<Byte>(joints)};
+    for (const Tie& tie : ties)
         packet.insert(packet.end(), tie.begin(), tie.end());
-    for (const Fact &fact : facts)
+    for (const Fact& fact : facts)
         packet.insert(packet.end(), fact.begin(), fact.end());
     set_length(packet);
     return packet;
 }
 
-inline Bytes facts_packet(size_t v, const std::vector<Fact> &facts)
-{
-    return make_packet(1, v, {}, facts);
-}
+inline Bytes facts_packet(size_t v, const std::vector<Fact>& facts) { return make_packet(1, v, {}, facts); }
 
 struct Rule {
     size_t joints = 0;
@@ -299,8 +286,8 @@ struct Rule {
 
 // ------------------------------------------------------------------- pictures
 
-// A picture with a placing of the rig joints: either one made up beforehand, so
-// that facts read off it are satisfiable together, or the one a block holds.
+// A picture with a placing of the rig joints: either one made up beforehand, so that facts read off it are satisfiable
+// together, or the one a block holds.
 struct Picture {
     size_t elements = 0;
     std::array<Byte, 64> placed{}; // by rig joint
@@ -308,7 +295,7 @@ struct Picture {
     std::array<std::array<Byte, links_per_joint>, 64> link{};
 };
 
-inline Picture random_picture(const Kinds &kinds, size_t v, Random &random)
+inline Picture random_picture(const Kinds& kinds, size_t v, Random& random)
 {
     Picture picture;
     picture.elements = random.chance(30) ? v : random.between(1, v);
@@ -316,23 +303,21 @@ inline Picture random_picture(const Kinds &kinds, size_t v, Random &random)
     const size_t first_link = random.below(links_per_joint);
     const size_t density = random.pick_of<size_t>({10, 40, 80, 100});
     for (size_t joint = 0; joint < v; joint++)
-        picture.placed[joint] = picture.elements == v && random.chance(80)
-                                    ? static_cast<Byte>(joint)
-                                    : random.byte_below(picture.elements);
+        picture.placed[joint] =
+            picture.elements == v && random.chance(80) ? static_cast<Byte>(joint) : random.byte_below(picture.elements);
     for (size_t element = 0; element < picture.elements; element++) {
         picture.kind[element] = static_cast<Byte>(random.between(1, kinds.n - 1));
         picture.link[element].fill(not_known);
         for (size_t i = 0; i < links_in_use; i++)
             if (random.chance(density))
-                picture.link[element][(first_link + i) % links_per_joint] =
-                    random.byte_below(picture.elements);
+                picture.link[element][(first_link + i) % links_per_joint] = random.byte_below(picture.elements);
     }
     return picture;
 }
 
-// The elements are the class numbers. A block that a faulty implementation left
-// may hold any bytes; those out of range are read as nothing known.
-inline Picture picture_of_block(const Kinds &kinds, size_t v, const Bytes &block)
+// The elements are the class numbers. A block that a faulty implementation left may hold any bytes; those out of range
+// are read as nothing known.
+inline Picture picture_of_block(const Kinds& kinds, size_t v, const Bytes& block)
 {
     Picture picture;
     picture.elements = 64;
@@ -349,7 +334,7 @@ inline Picture picture_of_block(const Kinds &kinds, size_t v, const Bytes &block
     return picture;
 }
 
-inline Byte kind_above(const Kinds &kinds, Byte kind, Random &random)
+inline Byte kind_above(const Kinds& kinds, Byte kind, Random& random)
 {
     for (size_t attempt = 0; attempt < 8; attempt++) {
         const Byte above = static_cast<Byte>(random.between(1, kinds.n - 1));
@@ -359,7 +344,7 @@ inline Byte kind_above(const Kinds &kinds, Byte kind, Random &random)
     return kind;
 }
 
-inline size_t joint_at(const Picture &picture, size_t v, Byte element, Random &random)
+inline size_t joint_at(const Picture& picture, size_t v, Byte element, Random& random)
 {
     const size_t from = random.below(v);
     for (size_t i = 0; i < v; i++)
@@ -368,7 +353,7 @@ inline size_t joint_at(const Picture &picture, size_t v, Byte element, Random &r
     return v;
 }
 
-inline Fact holding_fact(const Kinds &kinds, size_t v, const Picture &picture, Random &random)
+inline Fact holding_fact(const Kinds& kinds, size_t v, const Picture& picture, Random& random)
 {
     const size_t a = random.below(v);
     const Byte element = picture.placed[a];
@@ -389,7 +374,7 @@ inline Fact holding_fact(const Kinds &kinds, size_t v, const Picture &picture, R
     return has_kind(a, kind_above(kinds, picture.kind[element], random));
 }
 
-inline Fact any_fact(size_t n, size_t joints, Random &random)
+inline Fact any_fact(size_t n, size_t joints, Random& random)
 {
     const size_t a = random.below(joints);
     const size_t roll = random.below(100);
@@ -401,10 +386,9 @@ inline Fact any_fact(size_t n, size_t joints, Random &random)
     return link_leads(a, link, random.below(joints));
 }
 
-// Chains and cycles, joined at one point or tied into each other, so that one
-// equality runs through many classes: cycles of p and q joints fall together
-// into as many classes as their greatest common divisor.
-inline std::vector<Fact> far_reaching_facts(size_t v, Random &random)
+// Chains and cycles, joined at one point or tied into each other, so that one equality runs through many classes:
+// cycles of p and q joints fall together into as many classes as their greatest common divisor.
+inline std::vector<Fact> far_reaching_facts(size_t v, Random& random)
 {
     std::vector<Fact> facts;
     const size_t link = random.below(links_per_joint);
@@ -429,12 +413,11 @@ inline std::vector<Fact> far_reaching_facts(size_t v, Random &random)
 
 // ---------------------------------------------------------------------- rules
 
-// A rule that holds in the picture: each of its joints stands for an element,
-// and is tied there or reached by a link that the picture has.
-inline Rule holding_rule(const Kinds &kinds, size_t v, const Picture &picture, Random &random)
+// A rule that holds in the picture: each of its joints stands for an element, and is tied there or reached by a link
+// that the picture has.
+inline Rule holding_rule(const Kinds& kinds, size_t v, const Picture& picture, Random& random)
 {
-    const size_t wanted = random.chance(10) ? most_rule_joints
-                                            : random.between(1, random.chance(50) ? 3 : 10);
+    const size_t wanted = random.chance(10) ? most_rule_joints : random.between(1, random.chance(50) ? 3 : 10);
     std::vector<Tie> ties;
     std::vector<Fact> facts;
     Bytes element;
@@ -480,9 +463,9 @@ inline Rule holding_rule(const Kinds &kinds, size_t v, const Picture &picture, R
     for (size_t i = 0; i < joints; i++)
         number[i] = static_cast<Byte>(i);
     random.shuffle(number);
-    for (Tie &tie : ties)
+    for (Tie& tie : ties)
         tie[0] = number[tie[0]];
-    for (Fact &fact : facts) {
+    for (Fact& fact : facts) {
         fact[1] = number[fact[1]];
         if (fact[0] == 2)
             fact[2] = number[fact[2]];
@@ -494,9 +477,8 @@ inline Rule holding_rule(const Kinds &kinds, size_t v, const Picture &picture, R
     return {joints, ties, facts};
 }
 
-// Adds something that may turn "applies" into "waits" or "ruled out", while
-// every joint stays reached.
-inline void unsettle(Rule &rule, const Kinds &kinds, size_t v, Random &random)
+// Adds something that may turn "applies" into "waits" or "ruled out", while every joint stays reached.
+inline void unsettle(Rule& rule, const Kinds& kinds, size_t v, Random& random)
 {
     const size_t a = random.below(rule.joints);
     const size_t l = random.below(links_per_joint);
@@ -522,7 +504,7 @@ inline void unsettle(Rule &rule, const Kinds &kinds, size_t v, Random &random)
     }
 }
 
-inline Rule any_rule(size_t n, size_t v, Random &random)
+inline Rule any_rule(size_t n, size_t v, Random& random)
 {
     Rule rule;
     rule.joints = random.between(1, random.chance(70) ? 4 : most_rule_joints);
@@ -535,22 +517,20 @@ inline Rule any_rule(size_t n, size_t v, Random &random)
 
 // ---------------------------------------------------------- damage to packets
 
-inline Byte other_byte(Byte now, Random &random)
+inline Byte other_byte(Byte now, Random& random)
 {
-    const Byte changed = random.pick_of<Byte>(
-        {static_cast<Byte>(now + 1), static_cast<Byte>(now - 1), 0, 1, 2, 255, 128,
-         static_cast<Byte>(now ^ 1 << random.below(8)), random.byte()});
+    const Byte changed = random.pick_of<Byte>({static_cast<Byte>(now + 1), static_cast<Byte>(now - 1), 0, 1, 2, 255,
+                                               128, static_cast<Byte>(now ^ 1 << random.below(8)), random.byte()});
     return changed == now ? static_cast<Byte>(now + 1) : changed;
 }
 
 // A number that is just out of range, or far out of it.
-inline Byte beyond(size_t bound, Random &random)
+inline Byte beyond(size_t bound, Random& random)
 {
-    return random.chance(60) ? static_cast<Byte>(bound)
-                             : static_cast<Byte>(random.between(bound, 255));
+    return random.chance(60) ? static_cast<Byte>(bound) : static_cast<Byte>(random.between(bound, 255));
 }
 
-inline void damage_length(Bytes &packet, Random &random)
+inline void damage_length(Bytes& packet, Random& random)
 {
     switch (random.below(7)) {
     case 0:
@@ -578,7 +558,7 @@ inline void damage_length(Bytes &packet, Random &random)
     }
 }
 
-inline void damage_fact_count(Bytes &packet, Random &random)
+inline void damage_fact_count(Bytes& packet, Random& random)
 {
     const size_t before_facts = 6 + 2 * packet[4];
     switch (random.below(5)) {
@@ -608,7 +588,7 @@ inline void damage_fact_count(Bytes &packet, Random &random)
     set_length(packet);
 }
 
-inline void damage_tie_or_fact(Bytes &packet, size_t n, size_t v, Random &random)
+inline void damage_tie_or_fact(Bytes& packet, size_t n, size_t v, Random& random)
 {
     const size_t ties = std::min<size_t>(packet[4], (packet.size() - 6) / 2);
     const size_t joints = packet[5];
@@ -624,13 +604,10 @@ inline void damage_tie_or_fact(Bytes &packet, size_t n, size_t v, Random &random
     }
     if (facts == 0)
         return;
-    const size_t which = random.chance(20)   ? 0
-                         : random.chance(25) ? facts - 1
-                                             : random.below(facts);
+    const size_t which = random.chance(20) ? 0 : random.chance(25) ? facts - 1 : random.below(facts);
     const size_t at = facts_at + 4 * which;
     if (random.chance(20)) {
-        packet[at] = random.chance(50) ? random.pick_of<Byte>({0, 4, 255})
-                                       : static_cast<Byte>(random.between(4, 255));
+        packet[at] = random.chance(50) ? random.pick_of<Byte>({0, 4, 255}) : static_cast<Byte>(random.between(4, 255));
         return;
     }
     if (random.chance(30)) {
@@ -640,23 +617,19 @@ inline void damage_tie_or_fact(Bytes &packet, size_t n, size_t v, Random &random
     const bool second = random.chance(50);
     switch (packet[at]) {
     case 1:
-        packet[at + (second ? 2 : 3)] =
-            second ? beyond(n, random) : static_cast<Byte>(random.between(1, 255));
+        packet[at + (second ? 2 : 3)] = second ? beyond(n, random) : static_cast<Byte>(random.between(1, 255));
         break;
     case 2:
-        packet[at + (second ? 2 : 3)] =
-            second ? beyond(joints, random) : static_cast<Byte>(random.between(1, 255));
+        packet[at + (second ? 2 : 3)] = second ? beyond(joints, random) : static_cast<Byte>(random.between(1, 255));
         break;
     default:
-        packet[at + (second ? 2 : 3)] =
-            second ? beyond(links_per_joint, random) : beyond(joints, random);
+        packet[at + (second ? 2 : 3)] = second ? beyond(links_per_joint, random) : beyond(joints, random);
         break;
     }
 }
 
-// Leaves a rule joint unreached, at times with an equality or a link from it,
-// neither of which reaches it.
-inline void damage_reach(Bytes &packet, Random &random)
+// Leaves a rule joint unreached, at times with an equality or a link from it, neither of which reaches it.
+inline void damage_reach(Bytes& packet, Random& random)
 {
     if (packet[3] != 2 || packet[5] >= most_rule_joints)
         return;
@@ -669,25 +642,28 @@ inline void damage_reach(Bytes &packet, Random &random)
         const size_t fresh = joints + random.below(added);
         const size_t old = random.below(joints);
         const size_t l = random.below(links_per_joint);
-        const Fact fact =
-            random.chance(50) ? is_one_with(old, fresh) : link_leads(fresh, l, old);
+        const Fact fact = random.chance(50) ? is_one_with(old, fresh) : link_leads(fresh, l, old);
         packet.insert(packet.end(), fact.begin(), fact.end());
     }
     set_length(packet);
 }
 
-inline void damage_packet(Bytes &packet, size_t n, size_t v, Random &random)
+inline void damage_packet(Bytes& packet, size_t n, size_t v, Random& random)
 {
     if (packet.size() < 6)
         return;
     switch (random.below(100) / 5) {
-    case 0: case 1: case 2:
+    case 0:
+    case 1:
+    case 2:
         damage_length(packet, random);
         break;
-    case 3: case 4:
+    case 3:
+    case 4:
         packet[2] = other_byte(packet[2], random);
         break;
-    case 5: case 6:
+    case 5:
+    case 6:
         packet[3] = other_byte(packet[3], random);
         break;
     case 7:
@@ -704,10 +680,16 @@ inline void damage_packet(Bytes &packet, size_t n, size_t v, Random &random)
     case 10:
         packet[5] = random.pick_of<Byte>({0, 1, 32, 33, 64, 65, 255});
         break;
-    case 11: case 12: case 13:
+    case 11:
+    case 12:
+    case 13:
         damage_fact_count(packet, random);
         break;
-    case 14: case 15: case 16: case 17: case 18:
+    case 14:
+    case 15:
+    case 16:
+    case 17:
+    case 18:
         damage_tie_or_fact(packet, n, v, random);
         break;
     default:
@@ -718,7 +700,7 @@ inline void damage_packet(Bytes &packet, size_t n, size_t v, Random &random)
 
 // ----------------------------------------------------------- damage to tables
 
-inline void damage_table(Bytes &table, size_t n, Random &random)
+inline void damage_table(Bytes& table, size_t n, Random& random)
 {
     if (table.size() != n * n || n < 2)
         return;
@@ -765,9 +747,9 @@ inline void damage_table(Bytes &table, size_t n, Random &random)
 
 // ----------------------------------------------------------- damage to blocks
 
-// One byte changed, in a region chosen first, so that small regions are hit as
-// often as large ones. Some changes leave the block well formed.
-inline void damage_block(Bytes &block, Random &random)
+// One byte changed, in a region chosen first, so that small regions are hit as often as large ones. Some changes leave
+// the block well formed.
+inline void damage_block(Bytes& block, Random& random)
 {
     const size_t n = std::clamp<size_t>(block[0], 2, 64);
     const size_t v = std::clamp<size_t>(block[1], 1, 64);
@@ -779,21 +761,23 @@ inline void damage_block(Bytes &block, Random &random)
     case 1:
         at = 1;
         break;
-    case 2: case 3:
+    case 2:
+    case 3:
         at = classes_at + random.below(v);
         break;
-    case 4: case 5:
+    case 4:
+    case 5:
         at = kinds_at + random.below(v);
         break;
-    case 6: case 7:
+    case 6:
+    case 7:
         at = links_at + random.below(v * links_per_joint);
         break;
     case 8: // what belongs to joints from V on
         if (v < 64) {
             const size_t joint = random.between(v, 63);
-            at = random.pick_of<size_t>(
-                {classes_at + joint, kinds_at + joint,
-                 links_at + joint * links_per_joint + random.below(links_per_joint)});
+            at = random.pick_of<size_t>({classes_at + joint, kinds_at + joint,
+                                         links_at + joint * links_per_joint + random.below(links_per_joint)});
         }
         break;
     case 9:
@@ -815,13 +799,13 @@ inline void damage_block(Bytes &block, Random &random)
         break;
     }
     const size_t bound = at >= table_at ? n : v;
-    block[at] = random.chance(40) && block[at] < bound
-                    ? random.byte_below(bound)
-                    : random.chance(15) ? static_cast<Byte>(bound) : other_byte(block[at], random);
+    block[at] = random.chance(40) && block[at] < bound ? random.byte_below(bound)
+                : random.chance(15)                    ? static_cast<Byte>(bound)
+                                                       : other_byte(block[at], random);
 }
 
 // A well-formed block that no session need ever have made.
-inline Bytes foreign_block(const Kinds &kinds, size_t v, Random &random)
+inline Bytes foreign_block(const Kinds& kinds, size_t v, Random& random)
 {
     Bytes block(block_length, 0);
     block[0] = static_cast<Byte>(kinds.n);
@@ -835,14 +819,12 @@ inline Bytes foreign_block(const Kinds &kinds, size_t v, Random &random)
         }
         classes.push_back(static_cast<Byte>(joint));
         block[classes_at + joint] = static_cast<Byte>(joint);
-        block[kinds_at + joint] =
-            static_cast<Byte>(random.chance(30) ? 1 : random.between(1, kinds.n - 1));
+        block[kinds_at + joint] = static_cast<Byte>(random.chance(30) ? 1 : random.between(1, kinds.n - 1));
     }
     const size_t density = random.pick_of<size_t>({5, 30, 100, 100});
     for (const Byte joint : classes)
         for (size_t l = 0; l < links_per_joint; l++)
-            block[links_at + joint * links_per_joint + l] =
-                random.chance(density) ? random.pick(classes) : not_known;
+            block[links_at + joint * links_per_joint + l] = random.chance(density) ? random.pick(classes) : not_known;
     std::copy(kinds.table.begin(), kinds.table.end(), block.begin() + table_at);
     return block;
 }
@@ -851,13 +833,13 @@ inline Bytes foreign_block(const Kinds &kinds, size_t v, Random &random)
 
 enum class Name { open, take, ask, write, house };
 constexpr size_t name_count = 5;
-constexpr const char *name_text[name_count] = {"open", "take", "ask", "write", "house"};
+constexpr const char* name_text[name_count] = {"open", "take", "ask", "write", "house"};
 
 enum Slot { table_slot, block_slot, packet_slot, out_slot, slot_count };
-constexpr const char *slot_text[slot_count] = {"table", "block", "packet", "out"};
+constexpr const char* slot_text[slot_count] = {"table", "block", "packet", "out"};
 
-// Where a buffer lies in the memory lent: between guard bytes, or with an end at
-// memory that may not be touched at all, so that reading past it shows as well.
+// Where a buffer lies in the memory lent: between guard bytes, or with an end at memory that may not be touched at all,
+// so that reading past it shows as well.
 enum class Lie { between_guards, at_start, at_end };
 
 struct Lent {
@@ -880,7 +862,7 @@ inline Call call_with(Name name, std::initializer_list<std::pair<Slot, Bytes>> l
 {
     Call call;
     call.name = name;
-    for (const auto &[slot, bytes] : lent) {
+    for (const auto& [slot, bytes] : lent) {
         call.lent[slot].used = true;
         call.lent[slot].bytes = bytes;
         call.lent[slot].null = bytes.empty();
@@ -888,7 +870,7 @@ inline Call call_with(Name name, std::initializer_list<std::pair<Slot, Bytes>> l
     return call;
 }
 
-inline Call open_with(std::uint64_t n, std::uint64_t v, const Bytes &table, const Bytes &block)
+inline Call open_with(std::uint64_t n, std::uint64_t v, const Bytes& table, const Bytes& block)
 {
     Call call = call_with(Name::open, {{table_slot, table}, {block_slot, block}});
     call.n = n;
@@ -897,17 +879,15 @@ inline Call open_with(std::uint64_t n, std::uint64_t v, const Bytes &table, cons
 }
 
 class Session {
-  public:
+public:
     explicit Session(std::uint64_t seed)
-        : random(seed ^ 0x7265666572656e63), course(random_course(random)),
-          kinds(random_kinds(random)),
+        : random(seed ^ 0x7265666572656e63), course(random_course(random)), kinds(random_kinds(random)),
           v(course == Course::foreign && random.chance(20) ? 64 : random_joint_count(random)),
           hidden(random_picture(kinds, v, random)), steps(random.between(6, 30))
-    {
-    }
+    {}
 
     // The next call, given the block as it stands; nothing once the session ends.
-    bool next(const Bytes &block, Call &call)
+    bool next(const Bytes& block, Call& call)
     {
         if (step == steps)
             return false;
@@ -920,28 +900,26 @@ class Session {
         } else {
             make_step(call, block.empty() ? foreign_block(kinds, v, random) : block);
         }
-        for (Lent &lent : call.lent) {
+        for (Lent& lent : call.lent) {
             const size_t roll = random.below(100);
-            lent.lie = roll < 70   ? Lie::between_guards
-                       : roll < 80 ? Lie::at_start
-                                   : Lie::at_end;
+            lent.lie = roll < 70 ? Lie::between_guards : roll < 80 ? Lie::at_start : Lie::at_end;
             lent.shift = random.below(16);
             lent.null = lent.bytes.empty() && random.chance(60);
         }
         return true;
     }
 
-  private:
-    // Opened here and carried on; begun with a block that somebody else wrote;
-    // or nothing but openings, most of them refused.
+private:
+    // Opened here and carried on; begun with a block that somebody else wrote; or nothing but openings, most of them
+    // refused.
     enum class Course { opened, foreign, openings };
-    static Course random_course(Random &random)
+    static Course random_course(Random& random)
     {
         const size_t roll = random.below(100);
         return roll < 80 ? Course::opened : roll < 90 ? Course::foreign : Course::openings;
     }
 
-    static void lend(Call &call, Slot slot, Bytes bytes)
+    static void lend(Call& call, Slot slot, Bytes bytes)
     {
         call.lent[slot].used = true;
         call.lent[slot].bytes = std::move(bytes);
@@ -956,15 +934,14 @@ class Session {
         return bytes;
     }
 
-    void make_step(Call &call, const Bytes &block)
+    void make_step(Call& call, const Bytes& block)
     {
         const size_t roll = random.below(100);
         if (roll < 2) {
             make_open(call, block, 80);
         } else if (roll < 3) {
             call.name = Name::house;
-            lend(call, table_slot,
-                 noise(random.pick_of<size_t>({1089, 1089, 1089, 1088, 1090, 0, 4096})));
+            lend(call, table_slot, noise(random.pick_of<size_t>({1089, 1089, 1089, 1088, 1090, 0, 4096})));
         } else if (roll < 42) {
             call.name = Name::take;
             lend(call, packet_slot, next_facts());
@@ -995,12 +972,12 @@ class Session {
     std::uint64_t out_of_range(size_t good)
     {
         const std::uint64_t two_to_32 = std::uint64_t{1} << 32;
-        return random.pick_of<std::uint64_t>(
-            {0, 1, 65, 66, 255, 256, good + 256, two_to_32, two_to_32 + good, two_to_32 * good,
-             std::uint64_t{1} << 63, (std::uint64_t{1} << 63) + good, ~std::uint64_t{0}});
+        return random.pick_of<std::uint64_t>({0, 1, 65, 66, 255, 256, good + 256, two_to_32, two_to_32 + good,
+                                              two_to_32 * good, std::uint64_t{1} << 63, (std::uint64_t{1} << 63) + good,
+                                              ~std::uint64_t{0}});
     }
 
-    void make_open(Call &call, const Bytes &block, size_t damaged)
+    void make_open(Call& call, const Bytes& block, size_t damaged)
     {
         call.name = Name::open;
         call.n = kinds.n;
@@ -1009,8 +986,7 @@ class Session {
         Bytes table = kinds.table;
         Bytes lent_block = block.empty() ? noise(block_length) : block;
         if (random.chance(damaged)) {
-            // Some damage can still be opened, with other sizes than this
-            // session reckons with.
+            // Some damage can still be opened, with other sizes than this session reckons with.
             call.goes_on = course == Course::openings;
             for (size_t times = random.chance(80) ? 1 : 2; times > 0; times--) {
                 const size_t roll = random.below(100);
@@ -1024,8 +1000,8 @@ class Session {
                 } else if (roll < 22) {
                     call.v = out_of_range(v);
                 } else if (roll < 28) {
-                    table.resize(random.pick_of<size_t>(
-                        {0, table.size() - 1, table.size() + 1, table.size() + kinds.n, 4096}));
+                    table.resize(
+                        random.pick_of<size_t>({0, table.size() - 1, table.size() + 1, table.size() + kinds.n, 4096}));
                 } else if (roll < 32) {
                     lent_block.resize(random.pick_of<size_t>({0, 5249, 5251}));
                     call.goes_on = false;
@@ -1070,7 +1046,7 @@ class Session {
         return packet;
     }
 
-    Bytes next_rule(const Bytes &block)
+    Bytes next_rule(const Bytes& block)
     {
         if (!asked.empty() && random.chance(20))
             return random.pick(asked);
@@ -1100,15 +1076,13 @@ class Session {
         return packet;
     }
 
-    size_t next_output_length(const Bytes &block)
+    size_t next_output_length(const Bytes& block)
     {
         Bytes form(longest_solved_form);
-        const std::uint64_t written =
-            paper::write(block.data(), block.size(), form.data(), form.size());
+        const std::uint64_t written = paper::write(block.data(), block.size(), form.data(), form.size());
         const size_t needed = static_cast<size_t>(written >> 8 & 0xffffff);
-        return random.pick_of<size_t>({needed, needed, needed > 0 ? needed - 1 : 0, needed + 1,
-                                       longest_solved_form, longest_solved_form + 100, 0, 6,
-                                       random.below(needed + 1)});
+        return random.pick_of<size_t>({needed, needed, needed > 0 ? needed - 1 : 0, needed + 1, longest_solved_form,
+                                       longest_solved_form + 100, 0, 6, random.below(needed + 1)});
     }
 
     Random random;

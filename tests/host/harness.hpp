@@ -1,5 +1,5 @@
-// Running one call of one implementation on lent memory, and comparing what two
-// of them did: the number given and every byte of every buffer lent.
+// Running one call of one implementation on lent memory, and comparing what two of them did: the number given and every
+// byte of every buffer lent.
 
 #ifndef HOST_HARNESS_HPP
 #define HOST_HARNESS_HPP
@@ -27,32 +27,32 @@ struct Answer {
     unsigned place() const { return static_cast<unsigned>(packed >> 32); }
     std::string text() const
     {
-        return "number " + std::to_string(number()) + ", place " + std::to_string(place()) +
-               ", third " + std::to_string(third());
+        return "number " + std::to_string(number()) + ", place " + std::to_string(place()) + ", third " +
+               std::to_string(third());
     }
 };
 
 // Room for one buffer, with a page on either side that may not be touched.
 class LentMemory {
-  public:
+public:
     LentMemory()
     {
-        void *all = mmap(nullptr, page + room + page, PROT_NONE, MAP_PRIVATE | MAP_ANONYMOUS, -1, 0);
+        void* all = mmap(nullptr, page + room + page, PROT_NONE, MAP_PRIVATE | MAP_ANONYMOUS, -1, 0);
         if (all == MAP_FAILED) {
             std::perror("mmap");
             std::exit(2);
         }
-        start = static_cast<Byte *>(all) + page;
+        start = static_cast<Byte*>(all) + page;
         if (mprotect(start, room, PROT_READ | PROT_WRITE) != 0) {
             std::perror("mprotect");
             std::exit(2);
         }
     }
     ~LentMemory() { munmap(start - page, page + room + page); }
-    LentMemory(const LentMemory &) = delete;
-    LentMemory &operator=(const LentMemory &) = delete;
+    LentMemory(const LentMemory&) = delete;
+    LentMemory& operator=(const LentMemory&) = delete;
 
-    Byte *lend(const Lent &lent)
+    Byte* lend(const Lent& lent)
     {
         size = lent.bytes.size();
         if (size + 2 * guard + 16 > room) {
@@ -85,18 +85,17 @@ class LentMemory {
                 return false;
         return true;
     }
-    const Byte *bytes() const { return at; }
+    const Byte* bytes() const { return at; }
     size_t length() const { return size; }
 
-  private:
+private:
     static constexpr size_t page = 65536; // whole pages for any usual page size
     static constexpr size_t room = 2 * 65536;
     static constexpr size_t guard = 48;
 
     static Byte guard_byte(size_t i) { return static_cast<Byte>(0xc5 ^ 7 * i); }
 
-    // The sanitizer sees what the instrumented test side reads; the bytes show
-    // what anyone writes.
+    // The sanitizer sees what the instrumented test side reads; the bytes show what anyone writes.
     void guard_by_sanitizer([[maybe_unused]] bool on)
     {
 #if defined(__SANITIZE_ADDRESS__)
@@ -109,22 +108,21 @@ class LentMemory {
 #endif
     }
 
-    Byte *start = nullptr;
-    Byte *at = nullptr;
+    Byte* start = nullptr;
+    Byte* at = nullptr;
     size_t size = 0;
     size_t guard_before = 0;
     size_t guard_after = 0;
 };
 
 class Side {
-  public:
-    explicit Side(const paper::Calls &implementation) : calls(&implementation) {}
+public:
+    explicit Side(const paper::Calls& implementation) : calls(&implementation) {}
 
-    void use(const paper::Calls &implementation) { calls = &implementation; }
+    void use(const paper::Calls& implementation) { calls = &implementation; }
 
-    // Lending and calling are two steps, so that a test can call from a thread
-    // with a small stack.
-    void lend(const Call &call)
+    // Lending and calling are two steps, so that a test can call from a thread with a small stack.
+    void lend(const Call& call)
     {
         for (size_t slot = 0; slot < slot_count; slot++)
             if (call.lent[slot].used) {
@@ -132,37 +130,36 @@ class Side {
                 length[slot] = call.lent[slot].bytes.size();
             }
     }
-    void run(const Call &call)
+    void run(const Call& call)
     {
         switch (call.name) {
         case Name::open:
-            answer.packed = calls->open(call.n, call.v, pointer[table_slot], length[table_slot],
-                                        pointer[block_slot], length[block_slot]);
+            answer.packed = calls->open(call.n, call.v, pointer[table_slot], length[table_slot], pointer[block_slot],
+                                        length[block_slot]);
             break;
         case Name::take:
-            answer.packed = calls->take(pointer[block_slot], length[block_slot],
-                                        pointer[packet_slot], length[packet_slot]);
+            answer.packed =
+                calls->take(pointer[block_slot], length[block_slot], pointer[packet_slot], length[packet_slot]);
             break;
         case Name::ask:
-            answer.packed = calls->ask(pointer[block_slot], length[block_slot],
-                                       pointer[packet_slot], length[packet_slot]);
+            answer.packed =
+                calls->ask(pointer[block_slot], length[block_slot], pointer[packet_slot], length[packet_slot]);
             break;
         case Name::write:
-            answer.packed = calls->write(pointer[block_slot], length[block_slot],
-                                         pointer[out_slot], length[out_slot]);
+            answer.packed = calls->write(pointer[block_slot], length[block_slot], pointer[out_slot], length[out_slot]);
             break;
         case Name::house:
             answer.packed = calls->house(pointer[table_slot], length[table_slot]);
             break;
         }
     }
-    void give_back(const Call &call)
+    void give_back(const Call& call)
     {
         for (size_t slot = 0; slot < slot_count; slot++)
             if (call.lent[slot].used)
                 memory[slot].give_back();
     }
-    const Answer &made(const Call &call)
+    const Answer& made(const Call& call)
     {
         lend(call);
         run(call);
@@ -173,13 +170,13 @@ class Side {
     Answer answer;
     std::array<LentMemory, slot_count> memory;
 
-  private:
-    const paper::Calls *calls;
-    std::array<Byte *, slot_count> pointer{};
+private:
+    const paper::Calls* calls;
+    std::array<Byte*, slot_count> pointer{};
     std::array<size_t, slot_count> length{};
 };
 
-inline std::string hex(const Byte *bytes, size_t from, size_t to)
+inline std::string hex(const Byte* bytes, size_t from, size_t to)
 {
     std::string text;
     char two[4];
@@ -191,17 +188,16 @@ inline std::string hex(const Byte *bytes, size_t from, size_t to)
 }
 
 // What the two sides did differently in one call; empty if nothing.
-inline std::string difference(const Call &call, const Side &tried, const Side &expected)
+inline std::string difference(const Call& call, const Side& tried, const Side& expected)
 {
     std::string text;
     if (tried.answer.packed != expected.answer.packed)
-        text += "  gave      " + tried.answer.text() + "\n  expected  " + expected.answer.text() +
-                "\n";
+        text += "  gave      " + tried.answer.text() + "\n  expected  " + expected.answer.text() + "\n";
     for (size_t slot = 0; slot < slot_count; slot++) {
         if (!call.lent[slot].used)
             continue;
-        const LentMemory &one = tried.memory[slot];
-        const LentMemory &other = expected.memory[slot];
+        const LentMemory& one = tried.memory[slot];
+        const LentMemory& other = expected.memory[slot];
         if (!one.guards_stand())
             text += std::string("  wrote outside the ") + slot_text[slot] + "\n";
         if (!other.guards_stand())
@@ -212,27 +208,26 @@ inline std::string difference(const Call &call, const Side &tried, const Side &e
         while (one.bytes()[at] == other.bytes()[at])
             at++;
         const size_t to = std::min(at + 24, one.length());
-        text += std::string("  ") + slot_text[slot] + " differs from offset " +
-                std::to_string(at) + "\n    has       " + hex(one.bytes(), at, to) +
-                "\n    expected  " + hex(other.bytes(), at, to) + "\n";
+        text += std::string("  ") + slot_text[slot] + " differs from offset " + std::to_string(at) +
+                "\n    has       " + hex(one.bytes(), at, to) + "\n    expected  " + hex(other.bytes(), at, to) + "\n";
     }
     return text;
 }
 
-// The call itself, short enough to read: all of a small packet, the start of a
-// large one, and of a block what it holds about the first joints.
-inline std::string description(const Call &call)
+// The call itself, short enough to read: all of a small packet, the start of a large one, and of a block what it holds
+// about the first joints.
+inline std::string description(const Call& call)
 {
     std::string text = std::string("  call ") + name_text[static_cast<size_t>(call.name)];
     if (call.name == Name::open)
         text += ", n " + std::to_string(call.n) + ", V " + std::to_string(call.v);
     text += "\n";
     for (size_t slot = 0; slot < slot_count; slot++) {
-        const Lent &lent = call.lent[slot];
+        const Lent& lent = call.lent[slot];
         if (!lent.used)
             continue;
-        text += std::string("  ") + slot_text[slot] + ", " + std::to_string(lent.bytes.size()) +
-                " bytes" + (lent.null ? ", null" : "") +
+        text += std::string("  ") + slot_text[slot] + ", " + std::to_string(lent.bytes.size()) + " bytes" +
+                (lent.null ? ", null" : "") +
                 (lent.lie == Lie::at_start ? ", at the start of its memory"
                  : lent.lie == Lie::at_end ? ", at the end of its memory"
                                            : "") +
@@ -245,11 +240,11 @@ inline std::string description(const Call &call)
                 text += "    ...\n";
         }
         if (slot == block_slot && call.name != Name::open && lent.bytes.size() == block_length) {
-            const Byte *block = lent.bytes.data();
+            const Byte* block = lent.bytes.data();
             const size_t joints = std::min<size_t>(block[1], 16);
-            text += "    n " + std::to_string(block[0]) + ", V " + std::to_string(block[1]) +
-                    "\n    classes " + hex(block, classes_at, classes_at + joints) +
-                    "\n    kinds   " + hex(block, kinds_at, kinds_at + joints) + "\n";
+            text += "    n " + std::to_string(block[0]) + ", V " + std::to_string(block[1]) + "\n    classes " +
+                    hex(block, classes_at, classes_at + joints) + "\n    kinds   " +
+                    hex(block, kinds_at, kinds_at + joints) + "\n";
             for (size_t joint = 0; joint < std::min<size_t>(joints, 8); joint++) {
                 const size_t row = links_at + joint * links_per_joint;
                 text += "    links   " + hex(block, row, row + links_per_joint) + "\n";

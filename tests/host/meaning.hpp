@@ -1,6 +1,5 @@
-// Small sessions decided by the meaning itself: all pictures with enough
-// elements are gone through, and all placings in each. Nothing is solved here,
-// so that a mistake in how solving was argued would show.
+// Small sessions decided by the meaning itself: all pictures with enough elements are gone through, and all placings in
+// each. Nothing is solved here, so that a mistake in how solving was argued would show.
 
 #ifndef HOST_MEANING_HPP
 #define HOST_MEANING_HPP
@@ -10,9 +9,9 @@
 namespace host {
 
 class Meaning {
-  public:
+public:
     // Gives a description of the first answer that is not the meaning's.
-    static std::string failing(const paper::Calls &calls, size_t sessions)
+    static std::string failing(const paper::Calls& calls, size_t sessions)
     {
         for (size_t seed = 0; seed < sessions; seed++) {
             Meaning meaning(calls, seed);
@@ -23,15 +22,15 @@ class Meaning {
         return "";
     }
 
-  private:
+private:
     static constexpr size_t most_elements = 4;
     static constexpr size_t most_joints = 3;
 
-    Meaning(const paper::Calls &implementation, std::uint64_t seed)
+    Meaning(const paper::Calls& implementation, std::uint64_t seed)
         : calls(implementation), random(seed ^ 0x6d65616e696e67)
     {
-        // A picture for a rule that waits needs no more elements than there are
-        // joints, those of the rig and of the rule; more of them take too long.
+        // A picture for a rule that waits needs no more elements than there are joints, those of the rig and of the
+        // rule; more of them take too long.
         switch (random.below(4)) {
         case 0:
             v = 2, rule_joints = 1, links = 2;
@@ -46,9 +45,7 @@ class Meaning {
         elements = v + rule_joints;
         kind_share = random.pick_of<size_t>({10, 40, 60});
         const size_t n = random.between(2, 4);
-        kinds = n < 4 ? chain_kinds(n, random)
-                : random.chance(50) ? flat_kinds(n, random)
-                                    : family_kinds(n, random);
+        kinds = n < 4 ? chain_kinds(n, random) : random.chance(50) ? flat_kinds(n, random) : family_kinds(n, random);
     }
 
     struct Small {
@@ -56,7 +53,7 @@ class Meaning {
         Byte link[2][most_elements]; // "elements" stands for undefined
     };
 
-    bool holds(const Small &picture, const Byte *placed, const Fact &fact) const
+    bool holds(const Small& picture, const Byte* placed, const Fact& fact) const
     {
         const Byte a = placed[fact[1]];
         switch (fact[0]) {
@@ -68,16 +65,16 @@ class Meaning {
             return picture.link[fact[2]][a] == placed[fact[3]];
         }
     }
-    bool all_hold(const Small &picture, const Byte *placed, const std::vector<Fact> &facts) const
+    bool all_hold(const Small& picture, const Byte* placed, const std::vector<Fact>& facts) const
     {
-        for (const Fact &fact : facts)
+        for (const Fact& fact : facts)
             if (!holds(picture, placed, fact))
                 return false;
         return true;
     }
 
     // Counts up in a mixed base; false after the last.
-    static bool count_up(Byte *digits, size_t count, Byte low, Byte high)
+    static bool count_up(Byte* digits, size_t count, Byte low, Byte high)
     {
         for (size_t i = 0; i < count; i++) {
             if (digits[i] < high) {
@@ -89,12 +86,12 @@ class Meaning {
         return false;
     }
 
-    bool has_placing(const Small &picture, const Byte *rig, const Rule &rule) const
+    bool has_placing(const Small& picture, const Byte* rig, const Rule& rule) const
     {
         Byte placed[2] = {};
         do {
             bool agrees = true;
-            for (const Tie &tie : rule.ties)
+            for (const Tie& tie : rule.ties)
                 agrees = agrees && placed[tie[0]] == rig[tie[1]];
             if (agrees && all_hold(picture, placed, rule.facts))
                 return true;
@@ -102,9 +99,9 @@ class Meaning {
         return false;
     }
 
-    // Renaming a picture's elements changes nothing, so it is enough to look at
-    // placings that use elements in the order of their numbers.
-    bool in_order(const Byte *placed) const
+    // Renaming a picture's elements changes nothing, so it is enough to look at placings that use elements in the order
+    // of their numbers.
+    bool in_order(const Byte* placed) const
     {
         Byte next = 0;
         for (size_t joint = 0; joint < v; joint++) {
@@ -115,7 +112,7 @@ class Meaning {
         }
         return true;
     }
-    template <typename Visit> void each_rig(const std::vector<Fact> &facts, Visit visit) const
+    template <typename Visit> void each_rig(const std::vector<Fact>& facts, Visit visit) const
     {
         Byte placed[most_joints] = {};
         do {
@@ -132,7 +129,7 @@ class Meaning {
             } while (next_links(picture));
         } while (count_up(placed, v, 0, static_cast<Byte>(elements - 1)));
     }
-    bool next_links(Small &picture) const
+    bool next_links(Small& picture) const
     {
         for (size_t l = 0; l < links; l++)
             if (count_up(picture.link[l], elements, 0, static_cast<Byte>(elements)))
@@ -179,7 +176,7 @@ class Meaning {
         }
         return facts;
     }
-    bool block_says(const Bytes &block, const Fact &fact) const
+    bool block_says(const Bytes& block, const Fact& fact) const
     {
         const Byte a = block[classes_at + fact[1]];
         switch (fact[0]) {
@@ -192,7 +189,7 @@ class Meaning {
         }
     }
 
-    size_t count_classes(const Bytes &block) const
+    size_t count_classes(const Bytes& block) const
     {
         size_t classes = 0;
         for (size_t joint = 0; joint < v; joint++)
@@ -200,8 +197,8 @@ class Meaning {
         return classes;
     }
 
-    // Facts are taken in two packets; after each the block and the rules'
-    // verdicts must be those of all pictures of the facts taken so far.
+    // Facts are taken in two packets; after each the block and the rules' verdicts must be those of all pictures of the
+    // facts taken so far.
     std::string session()
     {
         Bytes block(block_length);
@@ -210,8 +207,7 @@ class Meaning {
         for (size_t part = 0; part < 2; part++) {
             std::vector<Fact> facts;
             if (part == 0 && random.chance(50)) {
-                // Two links that a join of their joints runs on through, at
-                // times to kinds that do not go together.
+                // Two links that a join of their joints runs on through, at times to kinds that do not go together.
                 const size_t a = random.below(v);
                 const size_t c = random.below(v);
                 facts = {link_leads(a, 0, c), link_leads((a + 1) % v, 0, (c + 1) % v)};
@@ -226,14 +222,13 @@ class Meaning {
             all.insert(all.end(), facts.begin(), facts.end());
 
             bool satisfiable = false;
-            each_rig(all, [&](const Small &, const Byte *) { satisfiable = true; });
+            each_rig(all, [&](const Small&, const Byte*) { satisfiable = true; });
             const Bytes packet = facts_packet(v, facts);
             const size_t classes_before = count_classes(block);
-            const Answer answer{
-                calls.take(block.data(), block.size(), packet.data(), packet.size())};
+            const Answer answer{calls.take(block.data(), block.size(), packet.data(), packet.size())};
             if (answer.number() != (satisfiable ? 0u : 11u))
-                return std::string("facts are ") + (satisfiable ? "" : "not ") +
-                       "satisfiable, but take gave " + answer.text();
+                return std::string("facts are ") + (satisfiable ? "" : "not ") + "satisfiable, but take gave " +
+                       answer.text();
             if (satisfiable)
                 taken = all;
             if (answer.third() != classes_before - count_classes(block))
@@ -245,7 +240,7 @@ class Meaning {
         }
         return "";
     }
-    std::string judge(const Bytes &block, const std::vector<Fact> &taken)
+    std::string judge(const Bytes& block, const std::vector<Fact>& taken)
     {
         const std::vector<Fact> every = every_fact();
         std::vector<bool> forced(every.size(), true);
@@ -253,7 +248,7 @@ class Meaning {
         for (size_t i = 0; i < 6; i++)
             rules.push_back(small_rule());
         std::vector<bool> some_have(rules.size()), some_lack(rules.size());
-        each_rig(taken, [&](const Small &picture, const Byte *placed) {
+        each_rig(taken, [&](const Small& picture, const Byte* placed) {
             for (size_t i = 0; i < every.size(); i++)
                 if (forced[i] && !holds(picture, placed, every[i]))
                     forced[i] = false;
@@ -272,16 +267,15 @@ class Meaning {
         for (size_t i = 0; i < rules.size(); i++) {
             const unsigned verdict = !some_lack[i] ? 1 : !some_have[i] ? 2 : 3;
             const Bytes packet = rules[i].packet();
-            const Answer answer{
-                calls.ask(block.data(), block.size(), packet.data(), packet.size())};
+            const Answer answer{calls.ask(block.data(), block.size(), packet.data(), packet.size())};
             if (answer.number() != 0 || answer.third() != verdict)
-                return "the verdict is " + std::to_string(verdict) + ", but ask gave " +
-                       answer.text() + " for " + hex(packet.data(), 0, packet.size());
+                return "the verdict is " + std::to_string(verdict) + ", but ask gave " + answer.text() + " for " +
+                       hex(packet.data(), 0, packet.size());
         }
         return "";
     }
 
-    const paper::Calls &calls;
+    const paper::Calls& calls;
     Random random;
     Kinds kinds;
     size_t v = 0;

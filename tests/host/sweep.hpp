@@ -1,5 +1,5 @@
-// Small inputs gone through one by one, where random calls may miss a boundary:
-// each byte set to each value of interest, each length about the right one.
+// Small inputs gone through one by one, where random calls may miss a boundary: each byte set to each value of
+// interest, each length about the right one.
 
 #ifndef HOST_SWEEP_HPP
 #define HOST_SWEEP_HPP
@@ -10,7 +10,7 @@ namespace host {
 
 // Visits each call, in an order that never changes.
 template <typename Visit> class Sweep {
-  public:
+public:
     explicit Sweep(Visit visit) : visit(visit)
     {
         sizes();
@@ -20,14 +20,12 @@ template <typename Visit> class Sweep {
         lengths();
     }
 
-  private:
+private:
     void sizes()
     {
         const Bytes block(block_length, 0xee);
         for (size_t n = 0; n <= 300; n++) {
-            const Bytes table = n >= 2 && n <= 64 ? chain_kinds(n, random).table
-                                : n <= 66         ? Bytes(n * n, 0)
-                                                  : Bytes();
+            const Bytes table = n >= 2 && n <= 64 ? chain_kinds(n, random).table : n <= 66 ? Bytes(n * n, 0) : Bytes();
             visit(open_with(n, 4, table, block));
         }
         const Kinds small = chain_kinds(3, random);
@@ -45,9 +43,8 @@ template <typename Visit> class Sweep {
     void tables()
     {
         const Bytes block(block_length, 0xee);
-        for (const Kinds &kinds :
-             {chain_kinds(2, random), chain_kinds(3, random), chain_kinds(5, random),
-              flat_kinds(6, random), product_kinds(8, random), family_kinds(7, random)}) {
+        for (const Kinds& kinds : {chain_kinds(2, random), chain_kinds(3, random), chain_kinds(5, random),
+                                   flat_kinds(6, random), product_kinds(8, random), family_kinds(7, random)}) {
             const size_t n = kinds.n;
             for (size_t i = 0; i < n; i++)
                 for (size_t j = 0; j < n; j++)
@@ -62,21 +59,19 @@ template <typename Visit> class Sweep {
         }
     }
 
-    Bytes block_after(const Kinds &kinds, size_t v, const std::vector<Fact> &facts)
+    Bytes block_after(const Kinds& kinds, size_t v, const std::vector<Fact>& facts)
     {
         Bytes block(block_length);
         const Bytes packet = facts_packet(v, facts);
-        paper::open(kinds.n, v, kinds.table.data(), kinds.table.size(), block.data(),
-                    block.size());
+        paper::open(kinds.n, v, kinds.table.data(), kinds.table.size(), block.data(), block.size());
         paper::take(block.data(), block.size(), packet.data(), packet.size());
         return block;
     }
     Bytes small_block()
     {
         return block_after(small_kinds, 6,
-                           {has_kind(0, 2), link_leads(0, 0, 1), link_leads(0, 15, 4),
-                            is_one_with(4, 3), is_one_with(5, 1), link_leads(3, 7, 3),
-                            has_kind(3, 4)});
+                           {has_kind(0, 2), link_leads(0, 0, 1), link_leads(0, 15, 4), is_one_with(4, 3),
+                            is_one_with(5, 1), link_leads(3, 7, 3), has_kind(3, 4)});
     }
 
     void blocks()
@@ -85,8 +80,7 @@ template <typename Visit> class Sweep {
         const Bytes small = small_block();
         for (size_t at = 0; at < block_length; at++) {
             const Byte now = small[at];
-            for (const Byte value :
-                 {0, 1, 2, 3, 4, 5, 6, 63, 64, 65, 254, 255, now + 1, now - 1, now ^ 128}) {
+            for (const Byte value : {0, 1, 2, 3, 4, 5, 6, 63, 64, 65, 254, 255, now + 1, now - 1, now ^ 128}) {
                 Bytes block = small;
                 block[at] = value;
                 visit(call_with(Name::write, {{block_slot, block}, {out_slot, out}}));
@@ -101,12 +95,9 @@ template <typename Visit> class Sweep {
             }
     }
 
-    const std::vector<Fact> facts = {has_kind(1, 3), is_one_with(2, 5), link_leads(4, 15, 2),
-                                     link_leads(0, 0, 5)};
-    const Rule rule = {3,
-                       {{0, 0}, {2, 4}},
-                       {link_leads(0, 0, 1), has_kind(2, 4), is_one_with(1, 1),
-                        link_leads(2, 7, 2)}};
+    const std::vector<Fact> facts = {has_kind(1, 3), is_one_with(2, 5), link_leads(4, 15, 2), link_leads(0, 0, 5)};
+    const Rule rule = {
+        3, {{0, 0}, {2, 4}}, {link_leads(0, 0, 1), has_kind(2, 4), is_one_with(1, 1), link_leads(2, 7, 2)}};
 
     void packets()
     {
@@ -120,8 +111,7 @@ template <typename Visit> class Sweep {
                     visit(call_with(name, {{block_slot, block}, {packet_slot, packet}}));
                 }
         }
-        // Each number of ties with each number of rule joints, all but the last
-        // of which are reached.
+        // Each number of ties with each number of rule joints, all but the last of which are reached.
         for (size_t ties = 0; ties <= 10; ties++)
             for (size_t joints = 0; joints <= 34; joints++) {
                 Rule row;
@@ -149,13 +139,11 @@ template <typename Visit> class Sweep {
                     set_length(packet);
                 visit(call_with(name, {{block_slot, block}, {packet_slot, packet}}));
             }
-            for (size_t ties = name == Name::take ? 0 : 1;
-                 ties <= (name == Name::take ? 0 : most_ties); ties++)
+            for (size_t ties = name == Name::take ? 0 : 1; ties <= (name == Name::take ? 0 : most_ties); ties++)
                 for (size_t count = most_facts - 2; count <= most_facts + 3; count++)
                     for (size_t extra = 0; extra < 4; extra++) {
-                        Bytes packet = make_packet(
-                            name == Name::take ? 1 : 2, 6, std::vector<Tie>(ties, Tie{0, 0}),
-                            std::vector<Fact>(count, has_kind(0, 1)));
+                        Bytes packet = make_packet(name == Name::take ? 1 : 2, 6, std::vector<Tie>(ties, Tie{0, 0}),
+                                                   std::vector<Fact>(count, has_kind(0, 1)));
                         if (name == Name::ask)
                             packet[5] = 1;
                         packet.resize(packet.size() + extra);
@@ -166,8 +154,7 @@ template <typename Visit> class Sweep {
                 Bytes resized = block;
                 resized.resize(length);
                 visit(call_with(name, {{block_slot, resized}, {packet_slot, good}}));
-                visit(call_with(Name::write,
-                                {{block_slot, resized}, {out_slot, Bytes(100, 0xee)}}));
+                visit(call_with(Name::write, {{block_slot, resized}, {out_slot, Bytes(100, 0xee)}}));
                 visit(open_with(small_kinds.n, 6, small_kinds.table, resized));
             }
         }

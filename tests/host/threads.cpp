@@ -1,6 +1,5 @@
-// The library on threads with a small stack, one call to a thread and the
-// largest inputs among them; then four threads at once, each on its own blocks;
-// and empty slices given as null pointers, at every call.
+// The library on threads with a small stack, one call to a thread and the largest inputs among them; then four threads
+// at once, each on its own blocks; and empty slices given as null pointers, at every call.
 //
 //   threads [--sessions N]     N random sessions, 150 if not given
 
@@ -26,13 +25,13 @@ constexpr size_t threads_at_once = 4;
 
 // ------------------------------------------------------ where the run stands
 
-// A stack that runs out kills the process; the handler has a stack of its own
-// and tells which call it was. A call that does not end comes here as well.
-const char *volatile running_where = "on the main thread: ";
-const char *volatile running_what = "";
+// A stack that runs out kills the process; the handler has a stack of its own and tells which call it was. A call that
+// does not end comes here as well.
+const char* volatile running_where = "on the main thread: ";
+const char* volatile running_what = "";
 constexpr unsigned longest_run_seconds = 300;
 
-void tell(const char *text)
+void tell(const char* text)
 {
     if (write(2, text, std::strlen(text)) < 0)
         _exit(3);
@@ -69,18 +68,17 @@ struct Recorded {
     std::array<Bytes, slot_count> left;
 };
 
-Bytes bytes_left(const Side &side, size_t slot)
+Bytes bytes_left(const Side& side, size_t slot)
 {
-    const LentMemory &memory = side.memory[slot];
+    const LentMemory& memory = side.memory[slot];
     return Bytes(memory.bytes(), memory.bytes() + memory.length());
 }
 
-std::string mismatch(const Side &side, const Recorded &recorded)
+std::string mismatch(const Side& side, const Recorded& recorded)
 {
     std::string text;
     if (side.answer.packed != recorded.answer.packed)
-        text += "  gave      " + side.answer.text() + "\n  expected  " +
-                recorded.answer.text() + "\n";
+        text += "  gave      " + side.answer.text() + "\n  expected  " + recorded.answer.text() + "\n";
     for (size_t slot = 0; slot < slot_count; slot++) {
         if (!recorded.call.lent[slot].used)
             continue;
@@ -93,10 +91,10 @@ std::string mismatch(const Side &side, const Recorded &recorded)
 }
 
 class Recorder {
-  public:
-    // Gives the block left behind. What the plain version does is recorded, once
-    // the library is seen to do the same while nothing else runs.
-    Bytes record(const std::string &what, const Call &call)
+public:
+    // Gives the block left behind. What the plain version does is recorded, once the library is seen to do the same
+    // while nothing else runs.
+    Bytes record(const std::string& what, const Call& call)
     {
         running_what = what.c_str();
         plain.made(call);
@@ -117,45 +115,43 @@ class Recorder {
     std::vector<Recorded> list;
     bool agreed = true;
 
-  private:
+private:
     Side tried{library};
     Side plain{paper::calls(paper::Fault::none)};
 };
 
-void record_sessions(Recorder &recorder, size_t sessions)
+void record_sessions(Recorder& recorder, size_t sessions)
 {
     for (size_t number = 0; number < sessions; number++) {
         Session session(number);
         Bytes block;
         Call call;
         for (size_t step = 0; session.next(block, call); step++) {
-            const Bytes left = recorder.record(
-                "session " + std::to_string(number) + ", call " + std::to_string(step), call);
+            const Bytes left =
+                recorder.record("session " + std::to_string(number) + ", call " + std::to_string(step), call);
             if (call.goes_on)
                 block = left;
         }
     }
 }
 
-// The most of everything at once: 64 kinds, 64 joints, 1,088 facts, a rule of 32
-// joints and 8 ties, joins that run through all joints and all links.
-void record_largest(Recorder &recorder)
+// The most of everything at once: 64 kinds, 64 joints, 1,088 facts, a rule of 32 joints and 8 ties, joins that run
+// through all joints and all links.
+void record_largest(Recorder& recorder)
 {
     Random random(64);
     const Kinds kinds = family_kinds(64, random);
-    const Bytes fresh = recorder.record(
-        "largest open", open_with(64, 64, kinds.table, Bytes(block_length, 0xee)));
-    const auto take = [&](const char *what, const Bytes &block, const std::vector<Fact> &facts) {
-        return recorder.record(what, call_with(Name::take, {{block_slot, block},
-                                                            {packet_slot, facts_packet(64, facts)}}));
+    const Bytes fresh = recorder.record("largest open", open_with(64, 64, kinds.table, Bytes(block_length, 0xee)));
+    const auto take = [&](const char* what, const Bytes& block, const std::vector<Fact>& facts) {
+        return recorder.record(what,
+                               call_with(Name::take, {{block_slot, block}, {packet_slot, facts_packet(64, facts)}}));
     };
-    const auto ask = [&](const char *what, const Bytes &block, const Rule &rule) {
+    const auto ask = [&](const char* what, const Bytes& block, const Rule& rule) {
+        recorder.record(what, call_with(Name::ask, {{block_slot, block}, {packet_slot, rule.packet()}}));
+    };
+    const auto write = [&](const char* what, const Bytes& block) {
         recorder.record(what,
-                        call_with(Name::ask, {{block_slot, block}, {packet_slot, rule.packet()}}));
-    };
-    const auto write = [&](const char *what, const Bytes &block) {
-        recorder.record(what, call_with(Name::write, {{block_slot, block},
-                                                      {out_slot, Bytes(longest_solved_form, 0xee)}}));
+                        call_with(Name::write, {{block_slot, block}, {out_slot, Bytes(longest_solved_form, 0xee)}}));
     };
 
     std::vector<Fact> all_known;
@@ -190,7 +186,7 @@ void record_largest(Recorder &recorder)
         rule.facts.push_back(link_leads(joint, joint % links_per_joint, joint + 1));
     while (rule.facts.size() < most_facts)
         rule.facts.push_back(any_fact(1, most_rule_joints, random));
-    for (Fact &fact : rule.facts)
+    for (Fact& fact : rule.facts)
         if (fact[0] == 1)
             fact[2] = 1;
     ask("largest rule, fresh block", fresh, rule);
@@ -198,7 +194,7 @@ void record_largest(Recorder &recorder)
     ask("largest rule, single class", one, rule);
     ask("largest rule, joints in a row", in_a_row, rule);
     Rule holding = rule;
-    for (Fact &fact : holding.facts)
+    for (Fact& fact : holding.facts)
         if (fact[0] == 3)
             fact[2] = 0;
     ask("largest rule of one link, single class", one, holding);
@@ -206,25 +202,22 @@ void record_largest(Recorder &recorder)
     Bytes longest = facts_packet(64, all_known);
     longest.resize(65534, 0);
     set_length(longest);
-    recorder.record("longest packet of facts",
-                    call_with(Name::take, {{block_slot, full}, {packet_slot, longest}}));
+    recorder.record("longest packet of facts", call_with(Name::take, {{block_slot, full}, {packet_slot, longest}}));
     longest.resize(65537, 0);
     longest[3] = 2;
     longest[4] = 8;
     longest[5] = 32;
     set_length(longest);
-    recorder.record("longest packet of a rule",
-                    call_with(Name::ask, {{block_slot, full}, {packet_slot, longest}}));
+    recorder.record("longest packet of a rule", call_with(Name::ask, {{block_slot, full}, {packet_slot, longest}}));
     recorder.record("house", call_with(Name::house, {{table_slot, Bytes(house_length, 0xee)}}));
 }
 
 // A null pointer with length 0 is an empty slice, wherever it is given.
-void record_nulls(Recorder &recorder)
+void record_nulls(Recorder& recorder)
 {
     const Kinds kinds = house_kinds();
     const Bytes none;
-    const Bytes block = recorder.record(
-        "open", open_with(33, 4, kinds.table, Bytes(block_length, 0xee)));
+    const Bytes block = recorder.record("open", open_with(33, 4, kinds.table, Bytes(block_length, 0xee)));
     const Bytes packet = facts_packet(4, {has_kind(0, 9)});
     const Bytes rule = Rule{1, {{0, 0}}, {has_kind(0, 9)}}.packet();
 
@@ -233,34 +226,31 @@ void record_nulls(Recorder &recorder)
     recorder.record("open, null block", open_with(33, 4, kinds.table, none));
     recorder.record("open, both null", open_with(33, 4, none, none));
     for (const Name name : {Name::take, Name::ask}) {
-        const Bytes &good = name == Name::take ? packet : rule;
+        const Bytes& good = name == Name::take ? packet : rule;
         recorder.record("null block", call_with(name, {{block_slot, none}, {packet_slot, good}}));
         recorder.record("null packet", call_with(name, {{block_slot, block}, {packet_slot, none}}));
         recorder.record("both null", call_with(name, {{block_slot, none}, {packet_slot, none}}));
     }
-    recorder.record("write, null block",
-                    call_with(Name::write, {{block_slot, none}, {out_slot, Bytes(100, 0xee)}}));
-    recorder.record("write, null output",
-                    call_with(Name::write, {{block_slot, block}, {out_slot, none}}));
-    recorder.record("write, both null",
-                    call_with(Name::write, {{block_slot, none}, {out_slot, none}}));
+    recorder.record("write, null block", call_with(Name::write, {{block_slot, none}, {out_slot, Bytes(100, 0xee)}}));
+    recorder.record("write, null output", call_with(Name::write, {{block_slot, block}, {out_slot, none}}));
+    recorder.record("write, both null", call_with(Name::write, {{block_slot, none}, {out_slot, none}}));
     recorder.record("house, null table", call_with(Name::house, {{table_slot, none}}));
 }
 
 // -------------------------------------------------------------------- threads
 
 struct Work {
-    void (*body)(Work &);
-    Side *side = nullptr;
-    const std::vector<Recorded> *list = nullptr;
+    void (*body)(Work&);
+    Side* side = nullptr;
+    const std::vector<Recorded>* list = nullptr;
     size_t first = 0;
     std::string problem;
     Bytes handler_stack = Bytes(64 * 1024);
 };
 
-void *thread_start(void *given)
+void* thread_start(void* given)
 {
-    Work &work = *static_cast<Work *>(given);
+    Work& work = *static_cast<Work*>(given);
     stack_t handler = {};
     handler.ss_sp = work.handler_stack.data();
     handler.ss_size = work.handler_stack.size();
@@ -271,12 +261,11 @@ void *thread_start(void *given)
     return nullptr;
 }
 
-pthread_t start_thread(Work &work)
+pthread_t start_thread(Work& work)
 {
     pthread_attr_t attributes;
     pthread_t thread;
-    if (pthread_attr_init(&attributes) != 0 ||
-        pthread_attr_setstacksize(&attributes, small_stack) != 0 ||
+    if (pthread_attr_init(&attributes) != 0 || pthread_attr_setstacksize(&attributes, small_stack) != 0 ||
         pthread_attr_setguardsize(&attributes, stack_guard) != 0 ||
         pthread_create(&thread, &attributes, thread_start, &work) != 0) {
         std::fprintf(stderr, "a thread with a small stack cannot be started\n");
@@ -287,7 +276,7 @@ pthread_t start_thread(Work &work)
 }
 
 // Only the call itself is made on the thread.
-size_t one_call_to_a_thread(const std::vector<Recorded> &list)
+size_t one_call_to_a_thread(const std::vector<Recorded>& list)
 {
     running_where = "on a small stack: ";
     Side side(library);
@@ -295,9 +284,9 @@ size_t one_call_to_a_thread(const std::vector<Recorded> &list)
     Work work;
     work.side = &side;
     work.list = &list;
-    work.body = [](Work &own) { own.side->run((*own.list)[own.first].call); };
+    work.body = [](Work& own) { own.side->run((*own.list)[own.first].call); };
     for (work.first = 0; work.first < list.size() && problems < 3; work.first++) {
-        const Recorded &recorded = list[work.first];
+        const Recorded& recorded = list[work.first];
         running_what = recorded.what.c_str();
         side.lend(recorded.call);
         pthread_join(start_thread(work), nullptr);
@@ -312,7 +301,7 @@ size_t one_call_to_a_thread(const std::vector<Recorded> &list)
 }
 
 // Each thread begins elsewhere in the list, so that different calls meet.
-size_t four_at_once(const std::vector<Recorded> &list)
+size_t four_at_once(const std::vector<Recorded>& list)
 {
     running_where = "on four threads at once";
     running_what = "";
@@ -324,15 +313,15 @@ size_t four_at_once(const std::vector<Recorded> &list)
         work[i].side = sides[i].get();
         work[i].list = &list;
         work[i].first = i * list.size() / threads_at_once;
-        work[i].body = [](Work &own) {
+        work[i].body = [](Work& own) {
             for (size_t j = 0; j < own.list->size() && own.problem.empty(); j++) {
-                const Recorded &recorded = (*own.list)[(own.first + j) % own.list->size()];
+                const Recorded& recorded = (*own.list)[(own.first + j) % own.list->size()];
                 own.side->made(recorded.call);
                 own.problem = mismatch(*own.side, recorded);
             }
         };
     }
-    for (Work &one : work)
+    for (Work& one : work)
         threads.push_back(start_thread(one));
     size_t problems = 0;
     for (size_t i = 0; i < threads_at_once; i++) {
@@ -347,7 +336,7 @@ size_t four_at_once(const std::vector<Recorded> &list)
 
 } // namespace
 
-int main(int argc, char **argv)
+int main(int argc, char** argv)
 {
     size_t sessions = 150;
     if (argc == 3 && std::string(argv[1]) == "--sessions") {
@@ -367,7 +356,7 @@ int main(int argc, char **argv)
     const size_t problems = one_call_to_a_thread(recorder.list) + four_at_once(recorder.list);
     std::printf("threads: %zu calls each on a thread of %zu KiB, and %zu on %zu threads at once, "
                 "%zu differing\n",
-                recorder.list.size(), small_stack / 1024, recorder.list.size() * threads_at_once,
-                threads_at_once, problems);
+                recorder.list.size(), small_stack / 1024, recorder.list.size() * threads_at_once, threads_at_once,
+                problems);
     return recorder.agreed && problems == 0 ? 0 : 1;
 }
