@@ -2,7 +2,8 @@
 // turn gives one ratio, and the line shows the middle one. Before a line is measured both must have given the same
 // number and left the same bytes.
 
-#include "vornulica.h"
+#include "implementation.hpp"
+#include "library.hpp"
 #include "work.hpp"
 
 #include <chrono>
@@ -16,7 +17,7 @@ namespace {
 
 using Clock = std::chrono::steady_clock;
 
-constexpr paper::Calls library = {rig_open, rig_take, rig_ask, rig_write, rig_house};
+using host::library;
 const paper::Calls& plain = paper::calls(paper::Fault::none);
 
 // A call writes into its own slot, so that taking can be repeated on the same start.
@@ -91,14 +92,13 @@ Work opening(const std::string& name, const Kinds& kinds, size_t v)
 Bytes opened(const Kinds& kinds, size_t v)
 {
     Bytes block(host::block_length);
-    plain.open(kinds.n, v, kinds.table.data(), kinds.table.size(), block.data(), block.size());
+    host::Implementation(plain).open(kinds.n, v, kinds.table, block);
     return block;
 }
 
 Bytes taken(Bytes block, const std::vector<Fact>& facts)
 {
-    const Bytes packet = facts_packet(block[1], facts);
-    if (plain.take(block.data(), block.size(), packet.data(), packet.size()) % 256 != 0) {
+    if (host::Implementation(plain).take(block, facts_packet(block[1], facts)).number() != 0) {
         std::fprintf(stderr, "a packet that was to be taken is refused\n");
         std::exit(1);
     }

@@ -3,7 +3,8 @@
 #ifndef BENCH_WORK_HPP
 #define BENCH_WORK_HPP
 
-#include "generate.hpp"
+#include "packets.hpp"
+#include "tables.hpp"
 
 namespace bench {
 
@@ -14,6 +15,7 @@ using host::has_kind;
 using host::is_one_with;
 using host::Kinds;
 using host::link_leads;
+using host::most_joints;
 using host::Rule;
 using host::Tie;
 using std::size_t;
@@ -73,8 +75,6 @@ inline Rule waiting_rule()
 }
 
 // ------------------------------------------------------------ the worst packet
-
-constexpr size_t most_joints = 64;
 
 // All 1,024 links, each joint's to other joints; then an equality that makes its two joints one and, link by link, all
 // 64; 63 more that say it again.

@@ -4,7 +4,9 @@
 #ifndef HOST_DEMAND3_HPP
 #define HOST_DEMAND3_HPP
 
-#include "harness.hpp"
+#include "blocks.hpp"
+#include "implementation.hpp"
+#include "rules.hpp"
 
 #include <map>
 
@@ -21,32 +23,21 @@ public:
             problem = round.clashes();
         if (problem.empty())
             problem = round.foreign();
-        calls_made += round.made;
+        calls_made += round.tried.made;
         return problem.empty() ? "" : "demand 3, seed " + std::to_string(seed) + ": " + problem;
     }
 
 private:
-    Demand3(const paper::Calls& implementation, std::uint64_t seed)
-        : calls(implementation), random(seed ^ 0x6f7264657273), kinds(random_kinds(random)),
-          v(random_joint_count(random)), hidden(random_picture(kinds, v, random))
+    Demand3(const paper::Calls& calls, std::uint64_t seed)
+        : tried(calls), random(seed ^ 0x6f7264657273), kinds(random_kinds(random)), v(random_joint_count(random)),
+          hidden(random_picture(kinds, v, random))
     {}
 
     Bytes opened()
     {
-        made++;
         Bytes block(block_length, 0xee);
-        calls.open(kinds.n, v, kinds.table.data(), kinds.table.size(), block.data(), block.size());
+        tried.open(kinds.n, v, kinds.table, block);
         return block;
-    }
-    Answer take(Bytes& block, const Bytes& packet)
-    {
-        made++;
-        return {calls.take(block.data(), block.size(), packet.data(), packet.size())};
-    }
-    Answer ask(const Bytes& block, const Bytes& packet)
-    {
-        made++;
-        return {calls.ask(block.data(), block.size(), packet.data(), packet.size())};
     }
 
     // The facts in this order, cut into packets of any sizes.
@@ -86,13 +77,12 @@ private:
     std::string solved_form_gives_it_back(const Bytes& block)
     {
         Bytes form(longest_solved_form);
-        made++;
-        const Answer written{calls.write(block.data(), block.size(), form.data(), form.size())};
+        const Answer written = tried.write(block, form);
         if (written.number() != 0)
             return "write gave " + written.text();
         form.resize(written.third());
         Bytes fresh = opened();
-        const Answer taken = take(fresh, form);
+        const Answer taken = tried.take(fresh, form);
         if (taken.number() != 0)
             return "the solved form was answered with " + taken.text();
         if (fresh != block)
@@ -110,22 +100,22 @@ private:
         Bytes first;
         size_t first_joins = 0;
         std::vector<Bytes> rules;
-        std::vector<std::uint64_t> answers;
+        std::vector<Answer> answers;
         for (size_t order = 0; order < 4; order++) {
-            const std::vector<Fact> sent = order == 0 ? facts : order == 1 ? facts : mixed_with_repeats(facts);
+            const std::vector<Fact> sent = order < 2 ? facts : mixed_with_repeats(facts);
             const size_t most_in_one = order == 0 ? facts.size() : order == 1 ? 1 : 8;
             Bytes block = opened();
             size_t joins = 0;
             std::map<size_t, unsigned> decided;
             for (const Bytes& packet : packets(sent, most_in_one)) {
-                const Answer answer = take(block, packet);
+                const Answer answer = tried.take(block, packet);
                 if (answer.number() != 0)
                     return "facts of one picture were answered with " + answer.text();
                 joins += answer.third();
                 if (order != 3)
                     continue;
                 for (size_t i = 0; i < rules.size(); i++) {
-                    const unsigned verdict = ask(block, rules[i]).third();
+                    const unsigned verdict = tried.ask(block, rules[i]).third();
                     if (decided.count(i) != 0 && decided[i] != verdict)
                         return "a decided verdict changed";
                     if (verdict == 1 || verdict == 2)
@@ -137,7 +127,7 @@ private:
                 first_joins = joins;
                 rules = some_rules(block, 10);
                 for (const Bytes& rule : rules)
-                    answers.push_back(ask(block, rule).packed);
+                    answers.push_back(tried.ask(block, rule));
                 const std::string problem = solved_form_gives_it_back(block);
                 if (!problem.empty())
                     return problem;
@@ -148,7 +138,7 @@ private:
             if (joins != first_joins)
                 return "the same facts in another order gave another sum of joins";
             for (size_t i = 0; i < rules.size(); i++)
-                if (ask(block, rules[i]).packed != answers[i])
+                if (tried.ask(block, rules[i]) != answers[i])
                     return "the same facts in another order gave a rule another answer";
         }
         return "";
@@ -161,13 +151,13 @@ private:
         for (size_t count = random.between(2, 30); count > 0; count--)
             facts.push_back(random.chance(80) ? holding_fact(kinds, v, hidden, random) : any_fact(kinds.n, v, random));
         Bytes together = opened();
-        const bool satisfiable = take(together, facts_packet(v, facts)).number() == 0;
+        const bool satisfiable = tried.take(together, facts_packet(v, facts)).number() == 0;
 
         Bytes block = opened();
         std::vector<Bytes> taken, refused;
         for (const Bytes& packet : packets(mixed_with_repeats(facts), 4)) {
             const Bytes before = block;
-            const Answer answer = take(block, packet);
+            const Answer answer = tried.take(block, packet);
             if (answer.number() != 0 && answer.number() != 11)
                 return "a well-formed packet was answered with " + answer.text();
             if (answer.number() == 11 && block != before)
@@ -175,7 +165,7 @@ private:
             (answer.number() == 0 ? taken : refused).push_back(packet);
             const Bytes after = block;
             for (const Bytes& again : refused)
-                if (take(block, again).number() != 11)
+                if (tried.take(block, again).number() != 11)
                     return "a packet that clashed was taken later";
             if (block != after)
                 return "a packet refused again changed the block";
@@ -188,7 +178,7 @@ private:
         random.shuffle(taken);
         Bytes again = opened();
         for (const Bytes& packet : taken)
-            if (take(again, packet).number() != 0)
+            if (tried.take(again, packet).number() != 0)
                 return "packets that were taken clash in another order";
         if (again != block)
             return "refused packets left a trace in the block";
@@ -198,12 +188,11 @@ private:
     // A block that somebody else wrote is its solved form and nothing more.
     std::string foreign() { return solved_form_gives_it_back(foreign_block(kinds, v, random)); }
 
-    const paper::Calls& calls;
+    Implementation tried;
     Random random;
     Kinds kinds;
     size_t v;
     Picture hidden;
-    size_t made = 0;
 };
 
 } // namespace host

@@ -3,7 +3,9 @@
 #ifndef HOST_EXAMPLES_HPP
 #define HOST_EXAMPLES_HPP
 
-#include "harness.hpp"
+#include "implementation.hpp"
+#include "packets.hpp"
+#include "tables.hpp"
 
 namespace host {
 
@@ -21,40 +23,35 @@ public:
     }
 
 private:
-    explicit Examples(const paper::Calls& implementation) : calls(implementation) {}
+    explicit Examples(const paper::Calls& calls) : tried(calls) {}
 
     void expect(const char* name, bool holds)
     {
         if (!holds)
             failed += std::string(failed.empty() ? "" : ", ") + name;
     }
-    static std::uint64_t reply(std::uint64_t number, std::uint64_t place = 0, std::uint64_t third = 0)
+    static Answer reply(std::uint64_t number, std::uint64_t place = 0, std::uint64_t third = 0)
     {
-        return number + 256 * third + (place << 32);
+        return {number + 256 * third + (place << 32)};
     }
     Bytes house()
     {
         Bytes table(house_length, 0xee);
-        expect("house", calls.house(table.data(), table.size()) == reply(0));
+        expect("house", tried.house(table) == reply(0));
         return table;
     }
     Bytes opened(std::uint64_t v)
     {
         const Bytes table = house();
         Bytes block(block_length, 0xee);
-        expect("open", calls.open(33, v, table.data(), table.size(), block.data(), block.size()) == reply(0));
+        expect("open", tried.open(33, v, table, block) == reply(0));
         return block;
     }
-    std::uint64_t take(Bytes& block, const std::vector<Fact>& facts)
+    Answer take(Bytes& block, const std::vector<Fact>& facts)
     {
-        const Bytes packet = facts_packet(block[1], facts);
-        return calls.take(block.data(), block.size(), packet.data(), packet.size());
+        return tried.take(block, facts_packet(block[1], facts));
     }
-    std::uint64_t ask(const Bytes& block, const Rule& rule)
-    {
-        const Bytes packet = rule.packet();
-        return calls.ask(block.data(), block.size(), packet.data(), packet.size());
-    }
+    Answer ask(const Bytes& block, const Rule& rule) { return tried.ask(block, rule.packet()); }
 
     void house_table()
     {
@@ -63,8 +60,8 @@ private:
         expect("P2", table[3 * 33 + 17] == 26);
         expect("P3", table[11 * 33 + 18] == 0);
         Bytes short_of_one(house_length - 1, 0xee);
-        expect("house of 1,088 bytes", calls.house(short_of_one.data(), short_of_one.size()) == reply(1) &&
-                                           short_of_one == Bytes(house_length - 1, 0xee));
+        expect("house of 1,088 bytes",
+               tried.house(short_of_one) == reply(1) && short_of_one == Bytes(house_length - 1, 0xee));
     }
 
     const std::vector<Fact> f = {has_kind(0, 9),      has_kind(0, 2),  link_leads(0, 1, 1),
@@ -78,13 +75,12 @@ private:
         const Bytes solved = {0x00, 0x14, 0x01, 0x01, 0x00, 0x04, 0x01, 0x00, 0x0b, 0x00, 0x03,
                               0x00, 0x01, 0x01, 0x01, 0x01, 0x17, 0x00, 0x02, 0x02, 0x01, 0x00};
         Bytes out(30, 0xee);
-        const std::uint64_t written = calls.write(block.data(), block.size(), out.data(), 30);
+        const Answer written = tried.write(block, out);
         Bytes wanted = solved;
         wanted.resize(30, 0xee);
         expect("P5", written == reply(0, 0, 22) && out == wanted);
         out.assign(21, 0xee);
-        expect("P5 in 21 bytes",
-               calls.write(block.data(), block.size(), out.data(), 21) == reply(12) && out == Bytes(21, 0xee));
+        expect("P5 in 21 bytes", tried.write(block, out) == reply(12) && out == Bytes(21, 0xee));
 
         const std::vector<Tie> tied = {{0, 0}};
         expect("P6", ask(block, {2, tied, {has_kind(0, 9), link_leads(0, 1, 1), has_kind(1, 2)}}) == reply(0, 0, 1));
@@ -107,7 +103,7 @@ private:
                                 : n == 65 ? Bytes(65 * 65, 0)
                                           : chain_kinds(static_cast<size_t>(n), random).table;
             Bytes block(block_length, 0xee);
-            const std::uint64_t answer = calls.open(n, 4, table.data(), table.size(), block.data(), block.size());
+            const Answer answer = tried.open(n, 4, table, block);
             expect("n of 1, 2, 64 and 65", answer == reply(n == 1 || n == 65 ? 1 : 0));
         }
         Bytes block = opened(64);
@@ -144,7 +140,7 @@ private:
         expect("error 5", block[classes_at + 1] == 1 && block[classes_at + 2] == 1 && block[classes_at + 3] == 1);
     }
 
-    const paper::Calls& calls;
+    Implementation tried;
     std::string failed;
 };
 

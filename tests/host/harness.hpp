@@ -4,8 +4,10 @@
 #ifndef HOST_HARNESS_HPP
 #define HOST_HARNESS_HPP
 
-#include "generate.hpp"
+#include "calls.hpp"
+#include "implementation.hpp"
 
+#include <algorithm>
 #include <cstdio>
 #include <cstdlib>
 #include <cstring>
@@ -18,19 +20,6 @@
 #endif
 
 namespace host {
-
-struct Answer {
-    std::uint64_t packed = 0;
-
-    unsigned number() const { return static_cast<unsigned>(packed & 0xff); }
-    unsigned third() const { return static_cast<unsigned>(packed >> 8 & 0xffffff); }
-    unsigned place() const { return static_cast<unsigned>(packed >> 32); }
-    std::string text() const
-    {
-        return "number " + std::to_string(number()) + ", place " + std::to_string(place()) + ", third " +
-               std::to_string(third());
-    }
-};
 
 // Room for one buffer, with a page on either side that may not be touched.
 class LentMemory {
@@ -115,6 +104,12 @@ private:
     size_t guard_after = 0;
 };
 
+// What a call gave, and what it left in each buffer that it was lent.
+struct Outcome {
+    Answer answer;
+    std::array<const Byte*, slot_count> left{};
+};
+
 class Side {
 public:
     explicit Side(const paper::Calls& implementation) : calls(&implementation) {}
@@ -130,29 +125,7 @@ public:
                 length[slot] = call.lent[slot].bytes.size();
             }
     }
-    void run(const Call& call)
-    {
-        switch (call.name) {
-        case Name::open:
-            answer.packed = calls->open(call.n, call.v, pointer[table_slot], length[table_slot], pointer[block_slot],
-                                        length[block_slot]);
-            break;
-        case Name::take:
-            answer.packed =
-                calls->take(pointer[block_slot], length[block_slot], pointer[packet_slot], length[packet_slot]);
-            break;
-        case Name::ask:
-            answer.packed =
-                calls->ask(pointer[block_slot], length[block_slot], pointer[packet_slot], length[packet_slot]);
-            break;
-        case Name::write:
-            answer.packed = calls->write(pointer[block_slot], length[block_slot], pointer[out_slot], length[out_slot]);
-            break;
-        case Name::house:
-            answer.packed = calls->house(pointer[table_slot], length[table_slot]);
-            break;
-        }
-    }
+    void run(const Call& call) { answer.packed = given(call); }
     void give_back(const Call& call)
     {
         for (size_t slot = 0; slot < slot_count; slot++)
@@ -167,10 +140,37 @@ public:
         return answer;
     }
 
+    Outcome outcome() const
+    {
+        Outcome all{answer, {}};
+        for (size_t slot = 0; slot < slot_count; slot++)
+            all.left[slot] = memory[slot].bytes();
+        return all;
+    }
+    Bytes left(Slot slot) const { return Bytes(memory[slot].bytes(), memory[slot].bytes() + memory[slot].length()); }
+
     Answer answer;
     std::array<LentMemory, slot_count> memory;
 
 private:
+    std::uint64_t given(const Call& call) const
+    {
+        Byte* const block = pointer[block_slot];
+        const size_t block_size = length[block_slot];
+        switch (call.name) {
+        case Name::open:
+            return calls->open(call.n, call.v, pointer[table_slot], length[table_slot], block, block_size);
+        case Name::take:
+            return calls->take(block, block_size, pointer[packet_slot], length[packet_slot]);
+        case Name::ask:
+            return calls->ask(block, block_size, pointer[packet_slot], length[packet_slot]);
+        case Name::write:
+            return calls->write(block, block_size, pointer[out_slot], length[out_slot]);
+        default:
+            return calls->house(pointer[table_slot], length[table_slot]);
+        }
+    }
+
     const paper::Calls* calls;
     std::array<Byte*, slot_count> pointer{};
     std::array<size_t, slot_count> length{};
@@ -187,30 +187,36 @@ inline std::string hex(const Byte* bytes, size_t from, size_t to)
     return text;
 }
 
-// What the two sides did differently in one call; empty if nothing.
-inline std::string difference(const Call& call, const Side& tried, const Side& expected)
+// What a side did otherwise than expected in one call; empty if nothing.
+inline std::string difference(const Call& call, const Side& tried, const Outcome& expected)
 {
     std::string text;
-    if (tried.answer.packed != expected.answer.packed)
+    if (tried.answer != expected.answer)
         text += "  gave      " + tried.answer.text() + "\n  expected  " + expected.answer.text() + "\n";
     for (size_t slot = 0; slot < slot_count; slot++) {
         if (!call.lent[slot].used)
             continue;
-        const LentMemory& one = tried.memory[slot];
-        const LentMemory& other = expected.memory[slot];
-        if (!one.guards_stand())
+        const LentMemory& memory = tried.memory[slot];
+        if (!memory.guards_stand())
             text += std::string("  wrote outside the ") + slot_text[slot] + "\n";
-        if (!other.guards_stand())
-            text += std::string("  the plain version wrote outside the ") + slot_text[slot] + "\n";
-        if (one.length() == 0 || std::memcmp(one.bytes(), other.bytes(), one.length()) == 0)
+        const Byte* has = memory.bytes();
+        const Byte* wanted = expected.left[slot];
+        const size_t length = memory.length();
+        if (length == 0 || std::memcmp(has, wanted, length) == 0)
             continue;
-        size_t at = 0;
-        while (one.bytes()[at] == other.bytes()[at])
-            at++;
-        const size_t to = std::min(at + 24, one.length());
+        const size_t at = static_cast<size_t>(std::mismatch(has, has + length, wanted).first - has);
+        const size_t to = std::min(at + 24, length);
         text += std::string("  ") + slot_text[slot] + " differs from offset " + std::to_string(at) +
-                "\n    has       " + hex(one.bytes(), at, to) + "\n    expected  " + hex(other.bytes(), at, to) + "\n";
+                "\n    has       " + hex(has, at, to) + "\n    expected  " + hex(wanted, at, to) + "\n";
     }
+    return text;
+}
+inline std::string difference(const Call& call, const Side& tried, const Side& plain)
+{
+    std::string text = difference(call, tried, plain.outcome());
+    for (size_t slot = 0; slot < slot_count; slot++)
+        if (call.lent[slot].used && !plain.memory[slot].guards_stand())
+            text += std::string("  the plain version wrote outside the ") + slot_text[slot] + "\n";
     return text;
 }
 
@@ -252,6 +258,17 @@ inline std::string description(const Call& call)
         }
     }
     return text;
+}
+
+// Makes a call on both sides; tells what differs, and gives whether nothing does.
+inline bool agree(const std::string& where, const Call& call, Side& tried, Side& plain)
+{
+    plain.made(call);
+    tried.made(call);
+    const std::string differs = difference(call, tried, plain);
+    if (!differs.empty())
+        std::printf("%s:\n%s%s", where.c_str(), description(call).c_str(), differs.c_str());
+    return differs.empty();
 }
 
 } // namespace host

@@ -5,6 +5,8 @@
 #define HOST_MEANING_HPP
 
 #include "harness.hpp"
+#include "packets.hpp"
+#include "tables.hpp"
 
 namespace host {
 
@@ -26,8 +28,7 @@ private:
     static constexpr size_t most_elements = 4;
     static constexpr size_t most_joints = 3;
 
-    Meaning(const paper::Calls& implementation, std::uint64_t seed)
-        : calls(implementation), random(seed ^ 0x6d65616e696e67)
+    Meaning(const paper::Calls& calls, std::uint64_t seed) : tried(calls), random(seed ^ 0x6d65616e696e67)
     {
         // A picture for a rule that waits needs no more elements than there are joints, those of the rig and of the
         // rule; more of them take too long.
@@ -202,7 +203,7 @@ private:
     std::string session()
     {
         Bytes block(block_length);
-        calls.open(kinds.n, v, kinds.table.data(), kinds.table.size(), block.data(), block.size());
+        tried.open(kinds.n, v, kinds.table, block);
         std::vector<Fact> taken;
         for (size_t part = 0; part < 2; part++) {
             std::vector<Fact> facts;
@@ -223,9 +224,8 @@ private:
 
             bool satisfiable = false;
             each_rig(all, [&](const Small&, const Byte*) { satisfiable = true; });
-            const Bytes packet = facts_packet(v, facts);
             const size_t classes_before = count_classes(block);
-            const Answer answer{calls.take(block.data(), block.size(), packet.data(), packet.size())};
+            const Answer answer = tried.take(block, facts_packet(v, facts));
             if (answer.number() != (satisfiable ? 0u : 11u))
                 return std::string("facts are ") + (satisfiable ? "" : "not ") + "satisfiable, but take gave " +
                        answer.text();
@@ -267,7 +267,7 @@ private:
         for (size_t i = 0; i < rules.size(); i++) {
             const unsigned verdict = !some_lack[i] ? 1 : !some_have[i] ? 2 : 3;
             const Bytes packet = rules[i].packet();
-            const Answer answer{calls.ask(block.data(), block.size(), packet.data(), packet.size())};
+            const Answer answer = tried.ask(block, packet);
             if (answer.number() != 0 || answer.third() != verdict)
                 return "the verdict is " + std::to_string(verdict) + ", but ask gave " + answer.text() + " for " +
                        hex(packet.data(), 0, packet.size());
@@ -275,7 +275,7 @@ private:
         return "";
     }
 
-    const paper::Calls& calls;
+    Implementation tried;
     Random random;
     Kinds kinds;
     size_t v = 0;

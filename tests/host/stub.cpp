@@ -1,11 +1,11 @@
 // Stands in for the library while the tests themselves are being tried:
 //
-//   g++ -std=c++17 -c stub.cpp && ar rcs libstub.a stub.o && ./run libstub.a
+//   g++ -std=c++17 -I../../include -c stub.cpp && ar rcs libstub.a stub.o && ./run libstub.a
 //
 // With -DSTUB_FAULT=name it answers like the plain version with that fault, and a run against it has to fail.
 
-#include "library.hpp"
 #include "reference.hpp"
+#include "vornulica.h"
 
 #ifndef STUB_FAULT
 #define STUB_FAULT none

@@ -4,7 +4,10 @@
 #ifndef HOST_SWEEP_HPP
 #define HOST_SWEEP_HPP
 
-#include "generate.hpp"
+#include "calls.hpp"
+#include "implementation.hpp"
+#include "packets.hpp"
+#include "tables.hpp"
 
 namespace host {
 
@@ -61,10 +64,10 @@ private:
 
     Bytes block_after(const Kinds& kinds, size_t v, const std::vector<Fact>& facts)
     {
+        Implementation plain(paper::calls(paper::Fault::none));
         Bytes block(block_length);
-        const Bytes packet = facts_packet(v, facts);
-        paper::open(kinds.n, v, kinds.table.data(), kinds.table.size(), block.data(), block.size());
-        paper::take(block.data(), block.size(), packet.data(), packet.size());
+        plain.open(kinds.n, v, kinds.table, block);
+        plain.take(block, facts_packet(v, facts));
         return block;
     }
     Bytes small_block()

@@ -3,60 +3,21 @@
 //
 //   threads [--sessions N]     N random sessions, 150 if not given
 
-#include "harness.hpp"
 #include "library.hpp"
+#include "walk.hpp"
 
-#include <csignal>
 #include <memory>
 
 #include <pthread.h>
-#include <unistd.h>
 
 namespace {
 
 using namespace host;
 
-const paper::Calls library = {rig_open, rig_take, rig_ask, rig_write, rig_house};
-
 constexpr size_t small_stack = 128 * 1024;
 // So wide that a large frame cannot step over it into other memory.
 constexpr size_t stack_guard = 1024 * 1024;
 constexpr size_t threads_at_once = 4;
-
-// ------------------------------------------------------ where the run stands
-
-// A stack that runs out kills the process; the handler has a stack of its own and tells which call it was. A call that
-// does not end comes here as well.
-const char* volatile running_where = "on the main thread: ";
-const char* volatile running_what = "";
-constexpr unsigned longest_run_seconds = 300;
-
-void tell(const char* text)
-{
-    if (write(2, text, std::strlen(text)) < 0)
-        _exit(3);
-}
-void tell_and_die(int signal)
-{
-    tell(signal == SIGALRM ? "no end " : "killed ");
-    tell(running_where);
-    tell(running_what);
-    tell("\n");
-    _exit(3);
-}
-void watch_signals()
-{
-    struct sigaction action;
-    std::memset(&action, 0, sizeof action);
-    action.sa_handler = tell_and_die;
-    action.sa_flags = SA_ONSTACK;
-    sigaction(SIGALRM, &action, nullptr);
-#if !defined(__SANITIZE_ADDRESS__) // which has better to tell
-    for (const int signal : {SIGSEGV, SIGBUS, SIGILL, SIGFPE, SIGABRT, SIGTRAP})
-        sigaction(signal, &action, nullptr);
-#endif
-    alarm(longest_run_seconds);
-}
 
 // ------------------------------------------------------------------ recordings
 
@@ -68,25 +29,12 @@ struct Recorded {
     std::array<Bytes, slot_count> left;
 };
 
-Bytes bytes_left(const Side& side, size_t slot)
-{
-    const LentMemory& memory = side.memory[slot];
-    return Bytes(memory.bytes(), memory.bytes() + memory.length());
-}
-
 std::string mismatch(const Side& side, const Recorded& recorded)
 {
-    std::string text;
-    if (side.answer.packed != recorded.answer.packed)
-        text += "  gave      " + side.answer.text() + "\n  expected  " + recorded.answer.text() + "\n";
-    for (size_t slot = 0; slot < slot_count; slot++) {
-        if (!recorded.call.lent[slot].used)
-            continue;
-        if (!side.memory[slot].guards_stand())
-            text += std::string("  wrote outside the ") + slot_text[slot] + "\n";
-        if (bytes_left(side, slot) != recorded.left[slot])
-            text += std::string("  left other bytes in the ") + slot_text[slot] + "\n";
-    }
+    Outcome expected{recorded.answer, {}};
+    for (size_t slot = 0; slot < slot_count; slot++)
+        expected.left[slot] = recorded.left[slot].data();
+    const std::string text = difference(recorded.call, side, expected);
     return text.empty() ? "" : recorded.what + "\n" + description(recorded.call) + text;
 }
 
@@ -96,43 +44,31 @@ public:
     // while nothing else runs.
     Bytes record(const std::string& what, const Call& call)
     {
-        running_what = what.c_str();
-        plain.made(call);
-        tried.made(call);
-        const std::string differs = difference(call, tried, plain);
-        if (!differs.empty()) {
-            std::printf("%s\n%s%s", what.c_str(), description(call).c_str(), differs.c_str());
-            agreed = false;
-        }
+        watch::now_at(what);
+        agreed &= agree(what, call, tried, plain);
         Recorded recorded{what, call, plain.answer, {}};
-        for (size_t slot = 0; slot < slot_count; slot++)
+        for (const Slot slot : {table_slot, block_slot, packet_slot, out_slot})
             if (call.lent[slot].used)
-                recorded.left[slot] = bytes_left(plain, slot);
+                recorded.left[slot] = plain.left(slot);
         list.push_back(recorded);
         return recorded.left[block_slot];
     }
 
     std::vector<Recorded> list;
     bool agreed = true;
+    Side plain{paper::calls(paper::Fault::none)};
 
 private:
     Side tried{library};
-    Side plain{paper::calls(paper::Fault::none)};
 };
 
 void record_sessions(Recorder& recorder, size_t sessions)
 {
-    for (size_t number = 0; number < sessions; number++) {
-        Session session(number);
-        Bytes block;
-        Call call;
-        for (size_t step = 0; session.next(block, call); step++) {
-            const Bytes left =
-                recorder.record("session " + std::to_string(number) + ", call " + std::to_string(step), call);
-            if (call.goes_on)
-                block = left;
-        }
-    }
+    for (std::uint64_t seed = 0; seed < sessions; seed++)
+        walk_session(seed, recorder.plain, [&](const std::string& where, const Call& call) {
+            recorder.record(where, call);
+            return true;
+        });
 }
 
 // The most of everything at once: 64 kinds, 64 joints, 1,088 facts, a rule of 32 joints and 8 ties, joins that run
@@ -245,19 +181,14 @@ struct Work {
     const std::vector<Recorded>* list = nullptr;
     size_t first = 0;
     std::string problem;
-    Bytes handler_stack = Bytes(64 * 1024);
+    Bytes handler_memory = Bytes(64 * 1024);
 };
 
 void* thread_start(void* given)
 {
     Work& work = *static_cast<Work*>(given);
-    stack_t handler = {};
-    handler.ss_sp = work.handler_stack.data();
-    handler.ss_size = work.handler_stack.size();
-    sigaltstack(&handler, nullptr);
+    const watch::HandlerStack handler_stack(work.handler_memory);
     work.body(work);
-    handler.ss_flags = SS_DISABLE;
-    sigaltstack(&handler, nullptr);
     return nullptr;
 }
 
@@ -278,7 +209,6 @@ pthread_t start_thread(Work& work)
 // Only the call itself is made on the thread.
 size_t one_call_to_a_thread(const std::vector<Recorded>& list)
 {
-    running_where = "on a small stack: ";
     Side side(library);
     size_t problems = 0;
     Work work;
@@ -287,7 +217,7 @@ size_t one_call_to_a_thread(const std::vector<Recorded>& list)
     work.body = [](Work& own) { own.side->run((*own.list)[own.first].call); };
     for (work.first = 0; work.first < list.size() && problems < 3; work.first++) {
         const Recorded& recorded = list[work.first];
-        running_what = recorded.what.c_str();
+        watch::now_at("a call on a small stack: " + recorded.what);
         side.lend(recorded.call);
         pthread_join(start_thread(work), nullptr);
         side.give_back(recorded.call);
@@ -303,8 +233,7 @@ size_t one_call_to_a_thread(const std::vector<Recorded>& list)
 // Each thread begins elsewhere in the list, so that different calls meet.
 size_t four_at_once(const std::vector<Recorded>& list)
 {
-    running_where = "on four threads at once";
-    running_what = "";
+    watch::now_at("four threads at once");
     std::vector<Work> work(threads_at_once);
     std::vector<std::unique_ptr<Side>> sides;
     std::vector<pthread_t> threads;
@@ -346,7 +275,7 @@ int main(int argc, char** argv)
         return 2;
     }
     std::setvbuf(stdout, nullptr, _IOLBF, 0);
-    watch_signals();
+    watch::begin();
 
     Recorder recorder;
     record_largest(recorder);
