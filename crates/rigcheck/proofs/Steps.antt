@@ -1,4 +1,5 @@
--- How a run goes on from the bytes of L, case by case; a packet that is read on is not too long.
+-- How a run goes on from the bytes of L, case by case; a packet that is read on is not too long; and the turn on the bytes read, whose step
+-- was judged by the first two.
 -- Assumes nothing.
 use mathlib.Core.Path.{_≡_, refl, sym, _∙_, ap}
 use mathlib.Core.Bool.{Bool, true, false, cond}
@@ -6,38 +7,61 @@ use mathlib.Core.List.{List}
 use Prim.Native.Nat.{ℕ, _+_, _*_, _≤_, _<_}
 use native.Mathlib.Omega.{arith}
 use lib.Dec.{eqb, ltb}
-use lib.ListN.{getD}
+use lib.ListN.{getD, take}
+use lib.Seq.{getD-take}
 use borrow.Author.Tests.{eq-eqb, ne-eqb, lt-ltb, le-ltb, ltb-false}
+use Rattle.lines.specs.declared.Line.{Line}
 use Rattle.rigcheck.specs.declared.Step.{Step}
 use Rattle.rigcheck.specs.declared.Step.the-variants.{End, Cut, Long, Packet}
-use Rattle.rigcheck.specs.Answers.{stepOf, longest}
+use Rattle.rigcheck.specs.Lines.{stepOf, longest, goesOn, Turn, Turned}
 
-module _ (got : ℕ) (head : List ℕ) where
+module _ (got : ℕ) (p : List ℕ) where
   abbrev L : ℕ
-  L = 256 * getD head 0 0 + getD head 1 0
+  L = 256 * getD p 0 0 + getD p 1 0
 
-  pub at-end : got ≡ 0 → End ≡ stepOf got head
+  pub at-end : got ≡ 0 → End ≡ stepOf got p
   unfolding stepOf
   at-end e = rw (eq-eqb got 0 e)
 
-  pub is-cut : (got ≡ 0 → ⊥) → got < 2 → Cut ≡ stepOf got head
+  pub is-cut : (got ≡ 0 → ⊥) → got < 2 → Cut ≡ stepOf got p
   unfolding stepOf
   is-cut d h = rw (ne-eqb got 0 d, lt-ltb got 2 h)
 
-  pub is-long : (got ≡ 0 → ⊥) → 2 ≤ got → longest < L → Long ≡ stepOf got head
+  pub is-long : (got ≡ 0 → ⊥) → 2 ≤ got → longest < L → Long ≡ stepOf got p
   unfolding stepOf
   is-long d h l = rw (ne-eqb got 0 d, le-ltb got 2 h, lt-ltb longest L l)
 
-  pub is-packet : (got ≡ 0 → ⊥) → 2 ≤ got → L ≤ longest → {size : ℕ} → size ≡ L → Packet size ≡ stepOf got head
+  pub is-packet : (got ≡ 0 → ⊥) → 2 ≤ got → L ≤ longest → {size : ℕ} → size ≡ L → Packet size ≡ stepOf got p
   unfolding stepOf
   is-packet d h l e = rw (ne-eqb got 0 d, le-ltb got 2 h, le-ltb longest L l) (ap Packet e)
 
-  short : (a b c : Bool) (s size : ℕ) → (c ≡ false → s ≤ 4372) → cond a End (cond b Cut (cond c Long (Packet s))) ≡ Packet size → size < 4373
+  short : (a b c : Bool) (s size : ℕ) → (c ≡ false → s ≤ longest) → cond a End (cond b Cut (cond c Long (Packet s))) ≡ Packet size → size ≤ longest
   short true b c s size f e = let z : _≡_ {A = ℕ} 0 1 = cc in omega arith
   short false true c s size f e = let z : _≡_ {A = ℕ} 0 1 = cc in omega arith
   short false false true s size f e = let z : _≡_ {A = ℕ} 0 1 = cc in omega arith
   short false false false s size f e = let q : s ≡ size = cc in omega (arith, f refl)
 
-  pub packet-short : {size : ℕ} → stepOf got head ≡ Packet size → size < 4373
+  pub packet-short : {size : ℕ} → stepOf got p ≡ Packet size → size ≤ longest
   unfolding stepOf
   packet-short {size} e = short (eqb got 0) (ltb got 2) (ltb longest L) L size (λ q. ltb-false longest L q) e
+
+-- a step is judged by the two bytes of L alone
+same-step : (got : ℕ) (p q : List ℕ) → take 2 p ≡ take 2 q → stepOf got p ≡ stepOf got q
+unfolding stepOf
+same-step got p q e =
+    let byte : (k : ℕ) → k < 2 → getD p k 0 ≡ getD q k 0 = λ k h. sym (getD-take 2 p k 0 h) ∙ ap (λ (l : List ℕ). getD l k 0) e ∙ getD-take 2 q k 0 h in
+    rw (byte 0 (omega arith), byte 1 (omega arith))
+
+pub turned :
+    (got : ℕ) (first packet : List ℕ) {b after : List ℕ} {step : Step} {rest : ℕ} {l : Line} {on : Bool} → step ≡ stepOf got first
+    → take 2 packet ≡ take 2 first → Turn b packet step rest l after → on ≡ goesOn step rest → Turned b on after
+turned got first packet {step = step} {rest = rest} {l = l} judged kept turn goes =
+    let e : step ≡ stepOf got packet = judged ∙ same-step got first packet (sym kept) in
+    record {
+      packet = packet;
+      got = got;
+      rest = rest;
+      line = l;
+      turn = rw e at turn;
+      goes = goes ∙ ap (λ (s : Step). goesOn s rest) e;
+    }

@@ -1,10 +1,24 @@
 // Reads V as one byte, then packets, from standard input, and writes one line a call: a word, then number, place and third.
 // The kinds are the house kinds.
 ghost use mathlib.Core.Path.{_≡_};
-ghost use Prim.Native.Nat.{ℕ, _<_};
+ghost use Prim.Native.Nat.{ℕ, _+_, _≤_, _<_};
+ghost use lib.ListN.{length, take};
+ghost use Rattle.blocks.specs.Layout.{blockSize};
+ghost use Rattle.lines.specs.Text.{line, longestWord, room, holding};
 ghost use Rattle.rigcheck.specs.declared.Step.the-variants.{Packet};
-ghost use Rattle.rigcheck.specs.Answers.{isFacts, Answer, stepOf, goesOn};
+ghost use Rattle.rigcheck.specs.Lines.{isFacts, Answered, longest, stepOf, goesOn, Turn, Turned, Opening};
+use lines::Line;
 use replies::Reply;
+
+// The largest L of a packet.
+const LONGEST: usize = 4372;
+
+// The same packet with its two bytes of L.
+const LONGEST_PACKET: usize = 4374;
+
+const BLOCK: usize = 5250;
+
+const HOUSE_KINDS: u64 = 33;
 
 // How a run goes on from the two bytes of L.
 enum Step {
@@ -25,8 +39,8 @@ fn wide(x: u8) -> usize
 }
 
 // L is judged as soon as its two bytes are read.
-fn next_step(got: usize, head: [u8; 2]) -> Step
-    ensures { λ r. ⌜ r ≡ stepOf got head ⌝ }
+fn next_step(got: usize, packet: [u8; LONGEST_PACKET]) -> Step
+    ensures { λ r. ⌜ r ≡ stepOf got packet ⌝ }
 {
     if got == 0 {
         return Step::End;
@@ -34,8 +48,8 @@ fn next_step(got: usize, head: [u8; 2]) -> Step
     if got < 2 {
         return Step::Cut;
     }
-    let size = 256 * wide(head[0]) + wide(head[1]);
-    if 4372 < size {
+    let size = 256 * wide(packet[0]) + wide(packet[1]);
+    if LONGEST < size {
         return Step::Long;
     }
     Step::Packet(size)
@@ -63,97 +77,117 @@ fn is_facts(packet: &[u8]) -> bool
     packet[3] == 1
 }
 
-// The answer to a packet.
-fn answer(block: &mut [u8], packet: &[u8]) -> Reply
-    ensures { λ r. ⌜ Answer (now (block .entry)) (now (packet .entry)) r (now (block .exit)) ⌝ }
+// Takes a packet of facts, asks any other. Its line.
+fn answered(block: &mut [u8], packet: &[u8]) -> Line
+    ensures { λ r. ⌜ Answered (now (block .entry)) (now (packet .entry)) r (now (block .exit)) ⌝ }
 {
     if is_facts(packet) {
-        return session::take::take(block, packet);
+        let reply = session::take::take(block, packet);
+        return Line::of_reply(b"facts", reply);
     }
-    session::ask::ask(block, packet)
+    let reply = session::ask::ask(block, packet);
+    Line::of_reply(b"rule", reply)
 }
 
-fn write_number(x: u64) {
-    io::write_all(1, b" ");
-    io::print_decimal(1, x);
-}
-
-fn write_line(word: &[u8], number: u8, place: u32, third: u32) {
-    io::write_all(1, word);
-    write_number(number as u64);
-    write_number(place as u64);
-    write_number(third as u64);
-    io::write_all(1, b"\n");
-}
-
-fn write_reply(word: &[u8], reply: Reply) {
-    write_line(
-        word,
-        replies::number_of(reply),
-        replies::place_of(reply),
-        replies::third_of(reply),
-    );
-}
-
-// Answers a whole packet with its line.
-fn answer_line(block: &mut [u8], packet: &[u8]) {
-    let facts = is_facts(packet);
-    let reply = answer(block, packet);
-    if facts {
-        write_reply(b"facts", reply);
-    } else {
-        write_reply(b"rule", reply);
-    }
-}
-
-// Answers the packet that stands in front of a buffer.
-fn answer_front(block: &mut [u8], buffer: [u8; 4374], end: usize)
-    requires { ⌜ end < 4375 ⌝ }
+// The line of a packet that cannot be read: its length is refused.
+fn refused(word: &[u8]) -> Line
+    requires { ⌜ length (now word) ≤ longestWord ⌝ }
+    ensures { λ r. ⌜ r ≡ holding (line (now (word .entry)) 5 0 0) ⌝ }
 {
-    answer_line(block, &buffer[..end]);
+    Line::of_reply(word, Reply::BadLength)
 }
 
-// Reads the rest of a packet behind its two bytes of L, which is not too long, and answers it where all of it could be read. The bytes read.
-fn rest_of_packet(block: &mut [u8], head: [u8; 2], size: usize) -> usize
-    requires { ⌜ size < 4373 ⌝ }
+// Answers a packet of which `rest` bytes could be read behind L, where that is all of them. Its line.
+fn told_packet(block: &mut [u8], packet: [u8; LONGEST_PACKET], size: usize, rest: usize) -> Line
+    requires { ⌜ size ≤ longest ⌝ }
+    ensures { λ r. ⌜ Turn (now (block .entry)) packet (Packet size) rest r (now (block .exit)) ⌝ }
 {
-    let mut packet = [0u8; 4374];
-    packet[0] = head[0];
-    packet[1] = head[1];
-    let end = size + 2;
-    let rest = io::read_full(0, &mut packet[2..end]);
     if rest < size {
-        write_reply(b"cut", Reply::BadLength);
-        return rest;
+        return refused(b"cut");
     }
-    answer_front(block, packet, end);
-    rest
+    let end = 2 + size;
+    answered(block, &packet[..end])
 }
 
-// Writes the line of a step that is no packet, or reads the packet and answers it. The bytes read behind L.
-fn act(block: &mut [u8], step: Step, head: [u8; 2]) -> usize
-    requires { ⌜ ((size : ℕ) → step ≡ Packet size → size < 4373) ⌝ }
+// One turn of the run, once its bytes are read. Its line.
+fn told(block: &mut [u8], packet: [u8; LONGEST_PACKET], step: Step, rest: usize) -> Line
+    requires { ⌜ ((size : ℕ) → step ≡ Packet size → size ≤ longest) ⌝ }
+    ensures { λ r. ⌜ Turn (now (block .entry)) packet step rest r (now (block .exit)) ⌝ }
+{
+    match step {
+        Step::End => Line::empty(),
+        Step::Cut => refused(b"cut"),
+        Step::Long => refused(b"long"),
+        Step::Packet(size) => told_packet(block, packet, size, rest),
+    }
+}
+
+// The line of `open`, and whether it ends the run.
+struct Opened {
+    line: Line,
+    refused: bool,
+}
+
+// Opens a session of V joints with the house kinds. A block that has its size leaves V alone to be refused.
+fn open(joints: u8, block: &mut [u8]) -> Opened
+    requires { ⌜ length (now block) ≡ blockSize ⌝ }
+    ensures { λ r. ⌜ Opening joints (now (block .entry)) (r .line) (r .refused) (now (block .exit)) ⌝ }
+{
+    let reply = session::open::open(HOUSE_KINDS, joints as u64, &house::table(), block);
+    let line = Line::of_reply(b"open", reply);
+    Opened {
+        line,
+        refused: replies::is_refusal(reply),
+    }
+}
+
+// Writes the text of a line.
+fn print(line: Line)
+    requires { ⌜ line .size ≤ room ⌝ }
+{
+    let bytes = line.bytes;
+    let size = line.size;
+    io::write_all(1, &bytes[..size]);
+}
+
+// Reads up to `size` bytes to `at`, and keeps those before. The bytes read.
+fn read_to(packet: &mut [u8], at: usize, size: usize) -> usize
+    requires { ⌜ at + size ≤ length (now packet) ⌝ }
+    ensures { λ _. ⌜ take at (now (packet .exit)) ≡ take at (now (packet .entry)) ⌝ }
+{
+    let end = at + size;
+    io::read_full(0, &mut packet[at..end])
+}
+
+// Reads a packet behind its two bytes of L, which stay. The bytes read.
+fn read_rest(packet: &mut [u8], step: Step) -> usize
+    requires { ⌜ ((size : ℕ) → step ≡ Packet size → 2 + size ≤ length (now packet)) ⌝ }
+    ensures { λ _. ⌜ take 2 (now (packet .exit)) ≡ take 2 (now (packet .entry)) ⌝ }
 {
     match step {
         Step::End => 0,
-        Step::Cut => {
-            write_reply(b"cut", Reply::BadLength);
-            0
-        }
-        Step::Long => {
-            write_reply(b"long", Reply::BadLength);
-            0
-        }
-        Step::Packet(size) => rest_of_packet(block, head, size),
+        Step::Cut => 0,
+        Step::Long => 0,
+        Step::Packet(size) => read_to(packet, 2, size),
     }
 }
 
+// Room for a packet. The contract gives the length alone, so that no proof has to look at so many zeros.
+fn no_packet() -> [u8; LONGEST_PACKET]
+    ensures { λ r. ⌜ length r ≡ 2 + longest ⌝ }
+{
+    [0; LONGEST_PACKET]
+}
+
 // One packet. Whether the run goes on.
-fn next_packet(block: &mut [u8]) -> bool {
-    let mut head = [0u8; 2];
-    let got = io::read_full(0, &mut head);
-    let step = next_step(got, head);
-    let rest = act(block, step, head);
+fn next_packet(block: &mut [u8]) -> bool
+    ensures { λ r. ⌜ Turned (now (block .entry)) r (now (block .exit)) ⌝ }
+{
+    let mut packet = no_packet();
+    let got = read_to(&mut packet, 0, 2);
+    let step = next_step(got, packet);
+    let rest = read_rest(&mut packet, step);
+    print(told(block, packet, step, rest));
     goes_on(step, rest)
 }
 
@@ -165,15 +199,22 @@ fn all_packets(block: &mut [u8]) {
     }
 }
 
+// Room for a block; the contract gives the length alone, too.
+fn no_block() -> [u8; BLOCK]
+    ensures { λ r. ⌜ length r ≡ blockSize ⌝ }
+{
+    [0; BLOCK]
+}
+
 fn main() {
     let mut joints = [0u8; 1];
     if io::read_full(0, &mut joints) == 0 {
         return;
     }
-    let mut block = [0u8; 5250];
-    let reply = session::open::open(33, wide(joints[0]) as u64, &house::table(), &mut block);
-    write_reply(b"open", reply);
-    if replies::is_refusal(reply) {
+    let mut block = no_block();
+    let opened = open(joints[0], &mut block);
+    print(opened.line);
+    if opened.refused {
         return;
     }
     all_packets(&mut block);

@@ -1,9 +1,7 @@
 -- `rigcheck::all_packets` is safe and ends: the count of turns falls.
 -- Assumes nothing.
-use native.Mathlib.Omega.{arith}
 use borrow.Author.Needs.{needs}
 use mathlib.Core.Path.{_≡_, refl}
-use Prim.Native.Nat.{_≤_}
 use lib.ListN.{length}
 use Rattle.rigcheck.proofs.all_packets.Statement.{statement}
 use Rattle.rigcheck.proofs.all_packets.Tie as tie
