@@ -1,0 +1,28 @@
+-- `call_examples::main` ends. Assumes nothing.
+use Prim.Native.Nat.{_-_, _≤_}
+use borrow.Author.Needs.{needs}
+use Rattle.call_examples.proofs.main.Statement.{statement}
+use Rattle.call_examples.proofs.main.Tie as tie
+
+abbrev Inv-loop : tie.InvT-loop
+Inv-loop block₀ table₀ counter₀ block table counter = counter ≤ 65536
+
+abbrev μ-loop : tie.MeasureT-loop
+μ-loop block₀ table₀ counter₀ block table counter = 65536 - counter
+
+pub main-spec : {M : Type 1} → statement M
+main-spec =
+    tie.close
+    (tie.spec
+    Inv-loop
+    μ-loop
+    (λ c. search needs)
+    (λ c κs. search needs)
+    (λ c. search needs)
+    (λ c κs. search needs)
+    (λ c κs. search needs)
+    (λ c κs. search needs)
+    (λ c. search needs)
+    (λ c. search needs)
+    (λ c. search needs)
+    (λ c. search needs))
