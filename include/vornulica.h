@@ -138,7 +138,7 @@ uint64_t rig_open(uint64_t n, uint64_t v, const uint8_t* table, size_t table_siz
 /*
  * Takes a packet of facts into the session: all of its facts, or none.
  *
- * Writes, when done: the block. The order of packets and repeated facts make no difference to its bytes.
+ * Writes, when done: the block. The order of the packets taken and repeated facts make no difference to its bytes.
  * Third: the joins, that is the classes of joints known to be one before, less those after; 0 to 63.
  * Replies: RIG_DONE
  *   RIG_BAD_SIZE    block_size not 5,250

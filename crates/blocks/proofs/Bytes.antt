@@ -1,88 +1,27 @@
--- Blocks as bytes: what a block joined from its parts holds, what stays when another form is put into a block, and that a well-formed
--- block is fixed by n, V, its table and its form, or by what its form means: byte by byte, each byte found in its part. Before these, what
--- forms that are equal at every joint share.
+-- Blocks as bytes: what a block made of its parts holds, what stays when another form is put into a block, and that a well-formed block is
+-- fixed by its rig and its form, or by what its form means: byte by byte, each byte found in its part.
 -- Assumes nothing.
-use mathlib.Core.Path.{_≡_, refl, sym, ap, _∙_}
-use mathlib.Core.Logic.{_↔_, _⊎_, inl, inr, by-cases}
-use mathlib.Core.List.{List, _++_, map}
-use Prim.Native.Nat.{ℕ, zero, suc, _+_, _-_, _*_, _/_, _%_, _<_, _≤_}
+use mathlib.Core.Path.{_≡_, refl, sym, ap, _∙_, subst}
+use mathlib.Core.Logic.{by-cases}
+use mathlib.Core.List.{List, _++_}
+use Prim.Native.Nat.{ℕ, _+_, _-_, _*_, _/_, _%_, _<_, _≤_}
 use native.Mathlib.Omega.{arith}
 use native.Mathlib.Decide.{decLt}
 use native.Mathlib.Nat.{div-add-mod', mod-lt}
 use lib.ListN.{length, getD, take, drop, length-append, length-drop, List·getD-append}
 use lib.Seq.{length-take-le, take-at, drop-at, drop-drop, getD-take, getD-drop, ext-getD}
-use Rattle.kinds.specs.Kinds.{Lawful, meetAt}
 use Rattle.tables.specs.Check.{tableReply}
 use Rattle.meaning.specs.declared.RigJoint.{RigJoint}
-use Rattle.meaning.specs.Picture.{Picture, Fact, rename, SameMeaning, Every}
-use Rattle.meaning.specs.Form.{listForm, Form, unknown, Smallest, Well, linksFrom, factsAt, factsFrom, rigJoint, takenFacts, classes}
-use Rattle.meaning.specs.Solving.{Models}
-use Rattle.meaning.proofs.Unique.{SameForm, same-meaning, one-form}
-use Rattle.blocks.specs.Layout.{blockSize, kindsOf, jointsOf, classesOf, jointKindsOf, rowsOf, tableOf, blockForm, withForm}
-use Rattle.blocks.proofs.Shape.{WellBlock, Ends, block-ends, some-joint, two-kinds, block-lawful}
-
--- forms that are equal at every joint have the same facts, models and classes, and are well formed together
-module _ {S T : Form} (e : SameForm S T) where
-  pub form-sym : SameForm T S
-  form-sym = record { class = λ j. sym (e .class j); kind = λ j. sym (e .kind j); link = λ j l b. sym (e .link j l b) }
-
-  to-first : {v : ℕ} (j : ℕ) → Smallest v T j → Smallest v S j
-  to-first j h = (h .0, e .class j ∙ h .1)
-
-  pub form-well : {n v : ℕ} → Well n v S → Well n v T
-  form-well {n} {v} w =
-      record {
-        class-le = λ j h. omega (arith, w .class-le j h, e .class j);
-        class-smallest = λ j h. (rw (e .class j, e .class (T .class j)) at (w .class-smallest j h));
-        kind-some = λ j h z. w .kind-some j (to-first j h) (e .kind j ∙ z);
-        kind-in = λ j. omega (arith, w .kind-in j, e .kind j);
-        link-smallest = λ j l h b. link-end j l b (w .link-smallest j l (to-first j h) b);
-        kind-rest = λ j d. sym (e .kind j) ∙ w .kind-rest j (λ h. d (to-second j h));
-        link-rest = λ j l d b. sym (e .link j l b) ∙ w .link-rest j l (λ h. d (to-second j h)) b;
-        class-rest = λ j h. sym (e .class j) ∙ w .class-rest j h;
-      }
-    where
-      to-second : (j : ℕ) → Smallest v S j → Smallest v T j
-      to-second j h = (h .0, sym (e .class j) ∙ h .1)
-
-      link-end : (j l : ℕ) → l < 16 → (S .link j l ≡ unknown) ⊎ Smallest v S (S .link j l) → (T .link j l ≡ unknown) ⊎ Smallest v T (T .link j l)
-      link-end j l b (inl q) = inl (sym (e .link j l b) ∙ q)
-      link-end j l b (inr h) = inr (rw (e .link j l b) at (to-second (S .link j l) h))
-
-  models-one : {n : ℕ} {meet : ℕ → ℕ → ℕ} {v : ℕ} {P : Picture n} {σ : ℕ → ℕ} → Models meet v S P σ → Models meet v T P σ
-  models-one {σ = σ} m =
-      record {
-        one = λ j h. m .one j h ∙ ap σ (e .class j);
-        kind = λ j h. rw (e .kind j) at (m .kind j (to-first j h));
-        link = λ j l h b known.
-            m .link j l (to-first j h) b (λ u. known (sym (e .link j l b) ∙ u)) ∙ ap σ (e .link j l b);
-      }
-
-  links-same : (j l count : ℕ) → l + count ≤ 16 → linksFrom S j l count ≡ linksFrom T j l count
-  unfolding linksFrom
-  links-same j l zero h = refl
-  links-same j l (suc count) h = rw (e .link j l (omega arith), links-same j (suc l) count (omega arith))
-
-  facts-at-same : (j : ℕ) → factsAt S j ≡ factsAt T j
-  unfolding factsAt
-  facts-at-same j = rw (e .class j, e .kind j, links-same j 0 16 (omega arith))
-
-  facts-from-same : (j count : ℕ) → factsFrom S j count ≡ factsFrom T j count
-  unfolding factsFrom
-  facts-from-same j zero = refl
-  facts-from-same j (suc count) = rw (facts-at-same j, facts-from-same (suc j) count)
-
-  pub form-facts : (v : ℕ) → takenFacts v S ≡ takenFacts v T
-  form-facts v = ap (map (rename rigJoint)) (facts-from-same 0 v)
-
-  pub form-classes : (v : ℕ) → classes S v ≡ classes T v
-  unfolding classes
-  form-classes zero = refl
-  form-classes (suc k) = rw (e .class k, form-classes k)
-
-pub form-models : {S T : Form} → SameForm S T → {n : ℕ} {meet : ℕ → ℕ → ℕ} {v : ℕ} {P : Picture n} {σ : ℕ → ℕ} →
-    Models meet v S P σ ↔ Models meet v T P σ
-form-models e = (models-one e, models-one (form-sym e))
+use Rattle.meaning.specs.Picture.{Fact}
+use Rattle.meaning.specs.Form.{listForm, takenFacts}
+use Rattle.meaning.specs.Solving.{Smallest, Well}
+use Rattle.meaning.specs.Rig.{Rig, SameMeaning}
+use Rattle.meaning.specs.Rig.Profile.{every}
+use Rattle.meaning.proofs.SameForm.{SameForm, form-sym, form-well}
+use Rattle.meaning.proofs.Unique.{same-meaning, one-form}
+use Rattle.blocks.specs.Layout.{sessionSize, blockSize, kindsOf, jointsOf, classesOf, jointKindsOf, rowsOf, roomOf, tableOf, blockForm, rigOf, taken}
+use Rattle.blocks.specs.Storing.{withForm}
+use Rattle.blocks.proofs.Shape.{WellBlock, GoodBlock, Ends, block-ends, block-rig}
 
 -- a byte from m on, counted from there; and in the part of some size that begins there
 pub byte-from : (m : ℕ) (b : List ℕ) (i : ℕ) → m ≤ i → getD b i 0 ≡ getD (drop m b) (i - m) 0
@@ -92,7 +31,7 @@ byte-in : (m size : ℕ) (b : List ℕ) (i : ℕ) → m ≤ i → i < m + size �
 byte-in m size b i h g = byte-from m b i h ∙ sym (getD-take size (drop m b) (i - m) 0 (omega arith))
 
 -- b has the bytes p in front, then the classes c, the kinds k, the rows r, and then d
-pub record Joined (b p c k r d : List ℕ) : Type 0 where
+pub record MadeOf (b p c k r d : List ℕ) : Type 0 where
   pub size : length b ≡ 1154 + length d
   pub front : (i : ℕ) → i < 2 → getD b i 0 ≡ getD p i 0
   pub classes : classesOf b ≡ c
@@ -100,9 +39,9 @@ pub record Joined (b p c k r d : List ℕ) : Type 0 where
   pub rows : rowsOf b ≡ r
   pub behind : drop 1154 b ≡ d
 
-pub joined : (p c k r d : List ℕ) → length p ≡ 2 → length c ≡ 64 → length k ≡ 64 → length r ≡ 1024 →
-    Joined (p ++ (c ++ (k ++ (r ++ d)))) p c k r d
-joined p c k r d lp lc lk lr =
+pub made-of : (p c k r d : List ℕ) → length p ≡ 2 → length c ≡ 64 → length k ≡ 64 → length r ≡ 1024 →
+    MadeOf (p ++ (c ++ (k ++ (r ++ d)))) p c k r d
+made-of p c k r d lp lc lk lr =
     record {
       size = simp length-append (omega arith);
       front = λ i h. List·getD-append p (c ++ (k ++ (r ++ d))) 0 i (omega arith);
@@ -124,52 +63,48 @@ joined p c k r d lp lc lk lr =
     from-130 : drop 130 whole ≡ r ++ d
     from-130 = sym (drop-drop 64 66 whole) ∙ ap (drop 64) from-66 ∙ drop-at k (r ++ d) 64 lk
 
--- a block of this n, V and table
-pub record Opened (n v : ℕ) (t b : List ℕ) : Type 0 where
-  pub size : length b ≡ blockSize
-  pub kinds : kindsOf b ≡ n
-  pub joints : jointsOf b ≡ v
-  pub table : tableOf b ≡ t
-
-pub opened-itself : (b : List ℕ) → length b ≡ blockSize → Opened (kindsOf b) (jointsOf b) (tableOf b) b
-opened-itself b size = record { size = size; kinds = refl; joints = refl; table = refl }
+-- blocks with the same n, V and table rest on the same rig
+pub same-rig : (b b' : List ℕ) → kindsOf b ≡ kindsOf b' → tableOf b ≡ tableOf b' → jointsOf b ≡ jointsOf b' → rigOf b ≡ rigOf b'
+same-rig b b' n t v = rig-of n t v
+  where
+    rig-of : {m k : ℕ} {x y : List ℕ} {v w : ℕ} → m ≡ k → x ≡ y → v ≡ w →
+        _≡_ {A = Rig} (record { kinds = m; table = x; joints = v; profile = every }) (record { kinds = k; table = y; joints = w; profile = every })
+    rig-of p q r = rw (p, q, r)
 
 -- another form put into a block
 module _
     (b c k r : List ℕ) (size : length b ≡ blockSize) (lc : 64 ≤ length c) (lk : 64 ≤ length k) (lr : 1024 ≤ length r) where
-  pub with-joined : Joined (withForm b c k r) (take 2 b) (take 64 c) (take 64 k) (take 1024 r) (drop 1154 b)
-  with-joined =
-      joined (take 2 b) (take 64 c) (take 64 k) (take 1024 r) (drop 1154 b)
+  pub with-parts : MadeOf (withForm b c k r) (take 2 b) (take 64 c) (take 64 k) (take 1024 r) (drop 1154 b)
+  with-parts =
+      made-of (take 2 b) (take 64 c) (take 64 k) (take 1024 r) (drop 1154 b)
       (length-take-le 2 b (omega arith)) (length-take-le 64 c lc) (length-take-le 64 k lk) (length-take-le 1024 r lr)
 
-  pub with-opened : Opened (kindsOf b) (jointsOf b) (tableOf b) (withForm b c k r)
-  with-opened =
-      record {
-        size = omega (arith, with-joined .size, length-drop 1154 b);
-        kinds = kinds;
-        joints = with-joined .front 1 (omega arith) ∙ getD-take 2 b 1 0 (omega arith);
-        table =
-            ap (λ (n : ℕ). take (n * n) (drop 1154 (withForm b c k r))) kinds
-            ∙ ap (take (kindsOf b * kindsOf b)) (with-joined .behind);
-      }
+  pub with-size : length (withForm b c k r) ≡ blockSize
+  with-size = omega (arith, with-parts .size, length-drop sessionSize b)
+
+  pub with-rig : rigOf (withForm b c k r) ≡ rigOf b
+  with-rig =
+      same-rig (withForm b c k r) b kinds
+      (ap (λ (n : ℕ). take (n * n) (roomOf (withForm b c k r))) kinds ∙ ap (take (kindsOf b * kindsOf b)) (with-parts .behind))
+      (with-parts .front 1 (omega arith) ∙ getD-take 2 b 1 0 (omega arith))
     where
       kinds : kindsOf (withForm b c k r) ≡ kindsOf b
-      kinds = with-joined .front 0 (omega arith) ∙ getD-take 2 b 0 0 (omega arith)
+      kinds = with-parts .front 0 (omega arith) ∙ getD-take 2 b 0 0 (omega arith)
 
   pub with-behind : (i : ℕ) → 1154 ≤ i → getD (withForm b c k r) i 0 ≡ getD b i 0
   with-behind i h =
       byte-from 1154 (withForm b c k r) i h
-      ∙ ap (λ (d : List ℕ). getD d (i - 1154) 0) (with-joined .behind)
+      ∙ ap (λ (d : List ℕ). getD d (i - 1154) 0) (with-parts .behind)
       ∙ sym (byte-from 1154 b i h)
 
   pub with-class : (j : ℕ) → j < 64 → blockForm (withForm b c k r) .class j ≡ getD c j 0
-  with-class j h = rw (with-joined .classes) (getD-take 64 c j 0 h)
+  with-class j h = rw (with-parts .classes) (getD-take 64 c j 0 h)
 
   pub with-kind : (j : ℕ) → j < 64 → blockForm (withForm b c k r) .kind j ≡ getD k j 0
-  with-kind j h = rw (with-joined .kinds) (getD-take 64 k j 0 h)
+  with-kind j h = rw (with-parts .kinds) (getD-take 64 k j 0 h)
 
   pub with-link : (j l : ℕ) → j < 64 → l < 16 → blockForm (withForm b c k r) .link j l ≡ getD r (j * 16 + l) 0
-  with-link j l h g = rw (with-joined .rows) (getD-take 1024 r (j * 16 + l) 0 (omega arith))
+  with-link j l h g = rw (with-parts .rows) (getD-take 1024 r (j * 16 + l) 0 (omega arith))
 
   -- a well-formed form of at most 64 joints is put in whole
   module _ {n v : ℕ} (high : v ≤ 64) (well : Well n v (listForm c k r)) where
@@ -196,57 +131,68 @@ module _
         ends : Ends (blockForm (withForm b c k r))
         ends = block-ends (withForm b c k r)
 
--- a block that differs from a well-formed one in its form alone, where that is well formed
-stays-well : {b w : List ℕ} → WellBlock b → Opened (kindsOf b) (jointsOf b) (tableOf b) w → ((i : ℕ) → 1154 ≤ i → getD w i 0 ≡ getD b i 0) →
-    Well (kindsOf b) (jointsOf b) (blockForm w) → WellBlock w
-stays-well {b} {w} old o behind well =
-    record {
-      n-low = rw (o .kinds) (old .n-low);
-      n-high = rw (o .kinds) (old .n-high);
-      v-low = rw (o .joints) (old .v-low);
-      v-high = rw (o .joints) (old .v-high);
-      passes = reply-same (o .kinds) (o .table) ∙ old .passes;
-      well = rw (o .kinds, o .joints) well;
-      zeros = λ i h g. behind i (omega arith) ∙ old .zeros i (rw (o .kinds) at h) g;
-    }
-  where
-    reply-same : {n m : ℕ} {t u : List ℕ} → n ≡ m → t ≡ u → tableReply n t ≡ tableReply m u
-    reply-same p q = rw (p, q)
+-- what is said of a rig is said of an equal one
+pub at-rig : {R S : Rig} (X : Rig → Type 0) → R ≡ S → X R → X S
+at-rig X e x = subst X e x
 
--- what a caller who packs a form into a well-formed block gets: a well-formed block with this form
+-- a block that differs from a well-formed one in its form alone, where that is well formed
+stays-well :
+    {b w : List ℕ} → WellBlock b → rigOf w ≡ rigOf b → ((i : ℕ) → sessionSize ≤ i → getD w i 0 ≡ getD b i 0) →
+    Well (kindsOf b) (jointsOf b) (blockForm w) → WellBlock w
+stays-well {b} {w} old e behind well =
+    let n : kindsOf w ≡ kindsOf b = ap (λ (R : Rig). R .kinds) e in
+    let v : jointsOf w ≡ jointsOf b = ap (λ (R : Rig). R .joints) e in
+    record {
+      n-low = rw n (old .n-low);
+      n-high = rw n (old .n-high);
+      v-low = rw v (old .v-low);
+      v-high = rw v (old .v-high);
+      passes = ap (λ (R : Rig). tableReply (R .kinds) (R .table)) e ∙ old .passes;
+      well = rw (n, v) well;
+      zeros = λ i h. behind i (omega arith) ∙ old .zeros i (rw n at h);
+    }
+
+-- what a caller who puts a form into a good block gets: a good block of the same rig with this form
 module _
-    {b : List ℕ} (w : WellBlock b) (size : length b ≡ blockSize)
+    {b : List ℕ} (g : GoodBlock b)
     (c k r : List ℕ) (lc : 64 ≤ length c) (lk : 64 ≤ length k) (lr : 1024 ≤ length r)
     (well : Well (kindsOf b) (jointsOf b) (listForm c k r)) where
-  pub packed-form : SameForm (blockForm (withForm b c k r)) (listForm c k r)
-  packed-form = with-form b c k r size lc lk lr (w .v-high) well
+  pub stored-form : SameForm (blockForm (withForm b c k r)) (listForm c k r)
+  stored-form = with-form b c k r (g .size) lc lk lr (g .well .v-high) well
 
-  pub packed-well : WellBlock (withForm b c k r)
-  packed-well =
-      stays-well w (with-opened b c k r size lc lk lr) (with-behind b c k r size lc lk lr) (form-well (form-sym packed-form) well)
+  pub stored-good : GoodBlock (withForm b c k r)
+  stored-good =
+      record {
+        size = with-size b c k r (g .size) lc lk lr;
+        well =
+            stays-well (g .well) (with-rig b c k r (g .size) lc lk lr) (with-behind b c k r (g .size) lc lk lr)
+            (form-well (form-sym stored-form) well);
+      }
 
--- well-formed blocks of one n, V, table and form are equal: byte by byte, in front, the form's three parts, the table, behind it
-module _
-    {n v : ℕ} {table b b' : List ℕ} (o : Opened n v table b) (o' : Opened n v table b') (w : WellBlock b) (w' : WellBlock b') where
+-- good blocks of one rig and one form are equal: byte by byte, in front, the form's three parts, the table, behind it
+module _ {b b' : List ℕ} (g : GoodBlock b) (g' : GoodBlock b') (rig : rigOf b ≡ rigOf b') where
+  kinds-one : kindsOf b ≡ kindsOf b'
+  kinds-one = ap (λ (R : Rig). R .kinds) rig
+
   front-same : (i : ℕ) → i < 2 → getD b i 0 ≡ getD b' i 0
   front-same i h =
       by-cases (decLt i 1)
-      (λ g. let e : i ≡ 0 = omega arith in rw e (o .kinds ∙ sym (o' .kinds)))
-      (λ g. let e : i ≡ 1 = omega arith in rw e (o .joints ∙ sym (o' .joints)))
+      (λ d. let e : i ≡ 0 = omega arith in rw e kinds-one)
+      (λ d. let e : i ≡ 1 = omega arith in rw e (ap (λ (R : Rig). R .joints) rig))
 
   part-same : (m size : ℕ) → ((i : ℕ) → getD (take size (drop m b)) i 0 ≡ getD (take size (drop m b')) i 0) →
       (i : ℕ) → m ≤ i → i < m + size → getD b i 0 ≡ getD b' i 0
-  part-same m size f i h g = byte-in m size b i h g ∙ f (i - m) ∙ sym (byte-in m size b' i h g)
+  part-same m size f i h k = byte-in m size b i h k ∙ f (i - m) ∙ sym (byte-in m size b' i h k)
 
-  table-same : (i : ℕ) → 1154 ≤ i → i < 5250 → getD b i 0 ≡ getD b' i 0
-  table-same i h g =
-      let square : kindsOf b * kindsOf b ≡ kindsOf b' * kindsOf b' = ap (λ (m : ℕ). m * m) (o .kinds ∙ sym (o' .kinds)) in
-      by-cases (decLt i (1154 + kindsOf b * kindsOf b))
+  table-same : (i : ℕ) → sessionSize ≤ i → getD b i 0 ≡ getD b' i 0
+  table-same i h =
+      let square : kindsOf b * kindsOf b ≡ kindsOf b' * kindsOf b' = ap (λ (m : ℕ). m * m) kinds-one in
+      by-cases (decLt i (sessionSize + kindsOf b * kindsOf b))
       (λ inside.
-      byte-in 1154 (kindsOf b * kindsOf b) b i h inside
-      ∙ ap (λ (t : List ℕ). getD t (i - 1154) 0) (o .table ∙ sym (o' .table))
-      ∙ sym (byte-in 1154 (kindsOf b' * kindsOf b') b' i h (omega arith)))
-      (λ d. w .zeros i (omega arith) g ∙ sym (w' .zeros i (omega arith) g))
+      byte-in sessionSize (kindsOf b * kindsOf b) b i h inside
+      ∙ ap (λ (R : Rig). getD (R .table) (i - sessionSize) 0) rig
+      ∙ sym (byte-in sessionSize (kindsOf b' * kindsOf b') b' i h (omega arith)))
+      (λ d. g .well .zeros i (omega arith) ∙ sym (g' .well .zeros i (omega arith)))
 
   module _ (e : SameForm (blockForm b) (blockForm b')) where
     rows-same : (i : ℕ) → getD (rowsOf b) i 0 ≡ getD (rowsOf b') i 0
@@ -254,45 +200,27 @@ module _
         let q : i / 16 * 16 + i % 16 ≡ i = div-add-mod' i 16 in
         rw q at (e .link (i / 16) (i % 16) (mod-lt i (omega arith)))
 
-    byte-same : (i : ℕ) → i < 5250 → getD b i 0 ≡ getD b' i 0
-    byte-same i h =
-        by-cases (decLt i 2) (λ g. front-same i g)
-        (λ d2. by-cases (decLt i 66) (λ g. part-same 2 64 (e .class) i (omega arith) g)
-        (λ d66. by-cases (decLt i 130) (λ g. part-same 66 64 (e .kind) i (omega arith) g)
-        (λ d130. by-cases (decLt i 1154) (λ g. part-same 130 1024 rows-same i (omega arith) g)
-        (λ d. table-same i (omega arith) h))))
+    byte-same : (i : ℕ) → getD b i 0 ≡ getD b' i 0
+    byte-same i =
+        by-cases (decLt i 2) (λ h. front-same i h)
+        (λ d2. by-cases (decLt i 66) (λ h. part-same 2 64 (e .class) i (omega arith) h)
+        (λ d66. by-cases (decLt i 130) (λ h. part-same 66 64 (e .kind) i (omega arith) h)
+        (λ d130. by-cases (decLt i sessionSize) (λ h. part-same 130 1024 rows-same i (omega arith) h)
+        (λ d. table-same i (omega arith)))))
 
     pub same-bytes : b ≡ b'
-    same-bytes = ext-getD 0 b b' (o .size ∙ sym (o' .size)) (λ i h. byte-same i (omega arith))
+    same-bytes = ext-getD 0 b b' (g .size ∙ sym (g' .size)) (λ i h. byte-same i)
 
--- what a well-formed block of this n, V and table gives of these
-module _ {n v : ℕ} {table b : List ℕ} (o : Opened n v table b) (w : WellBlock b) where
-  pub opened-well : Well n v (blockForm b)
-  opened-well = rw (← o .kinds, ← o .joints) (w .well)
+  -- the form of the second, over the rig of the first
+  form-there : Well (kindsOf b) (jointsOf b) (blockForm b')
+  form-there = at-rig (λ R. Well (R .kinds) (R .joints) (blockForm b')) (sym rig) (g' .well .well)
 
-  pub opened-lawful : Lawful n (meetAt n table)
-  opened-lawful = moved (o .kinds) (o .table) (block-lawful w)
-    where
-      moved : {m : ℕ} {t : List ℕ} → m ≡ n → t ≡ table → Lawful m (meetAt m t) → Lawful n (meetAt n table)
-      moved p q L = rw (← p, ← q) L
+  taken-there : taken b' ≡ takenFacts (jointsOf b) (blockForm b')
+  taken-there = ap (λ (R : Rig). takenFacts (R .joints) (blockForm b')) (sym rig)
 
--- what a block has taken means what these facts mean
-abbrev pub Means : (n v : ℕ) → List ℕ → List ℕ → List (Fact RigJoint) → Type 0
-Means n v table b facts = SameMeaning {n = n} (meetAt n table) Every (takenFacts v (blockForm b)) facts
+  -- good blocks of one rig that mean the same are equal
+  pub same-meaning-bytes : SameMeaning (rigOf b) (taken b) (taken b') → b ≡ b'
+  same-meaning-bytes m = same-bytes (same-meaning (block-rig (g .well)) (g .well .well) form-there (rw taken-there at m))
 
--- well-formed blocks of one n, V and table that mean the same are equal
-module _
-    {n v : ℕ} {table b b' : List ℕ} (o : Opened n v table b) (o' : Opened n v table b') (w : WellBlock b) (w' : WellBlock b') where
-  two : 1 < n
-  two = omega (arith, two-kinds w, o .kinds)
-
-  pos : 0 < v
-  pos = omega (arith, some-joint w, o .joints)
-
-  pub same-meaning-bytes : Means n v table b (takenFacts v (blockForm b')) → b ≡ b'
-  same-meaning-bytes m =
-      same-bytes o o' w w' (same-meaning (opened-lawful o w) pos (opened-well o w) (opened-well o' w') two Every tt tt m)
-
-  pub one-block : (facts : List (Fact RigJoint)) → Means n v table b facts → Means n v table b' facts → b ≡ b'
-  one-block facts m m' =
-      same-bytes o o' w w' (one-form (opened-lawful o w) pos (opened-well o w) (opened-well o' w') two facts m m')
+  pub one-block : (facts : List (Fact RigJoint)) → SameMeaning (rigOf b) (taken b) facts → SameMeaning (rigOf b) (taken b') facts → b ≡ b'
+  one-block facts m m' = same-bytes (one-form (block-rig (g .well)) (g .well .well) form-there facts m (rw taken-there at m'))

@@ -1,5 +1,5 @@
 -- A block as opening writes it: its n, V and table, its form, that it is well formed, and that it has taken no fact. Its parts are read off
--- as those of any joined block.
+-- as those of any block made of its parts.
 -- Assumes nothing.
 use mathlib.Core.Path.{_≡_, refl, ap, _∙_}
 use mathlib.Core.Logic.{by-cases, inl}
@@ -14,13 +14,16 @@ use lib.Seq.{take-at, drop-at}
 use borrow.Author.Tests.{eq-eqb, lt-ltb, le-ltb}
 use Rattle.kinds.proofs.Offset.{square-le}
 use Rattle.replies.specs.declared.Reply.the-variants.{Done}
-use Rattle.tables.specs.Check.{Sized, tableReply}
+use Rattle.tables.specs.Check.{tableReply}
+use Rattle.tables.specs.Sizes.{Sized}
 use Rattle.meaning.specs.Picture.{rename}
-use Rattle.meaning.specs.Form.{Form, unknown, Smallest, Well, linksFrom, factsAt, factsFrom, rigJoint, takenFacts, classes}
-use Rattle.runs.specs.Runs.{each}
-use Rattle.blocks.specs.Layout.{blockForm, freshBlock}
-use Rattle.blocks.proofs.Shape.{WellBlock, block-ends}
-use Rattle.blocks.proofs.Bytes.{Joined, joined, Opened, byte-from}
+use Rattle.meaning.specs.Form.{Form, unknown, linksFrom, factsAt, factsFrom, rigJoint, takenFacts, classes}
+use Rattle.meaning.specs.Solving.{Smallest, Well}
+use Rattle.runs.proofs.Each.{each-length, each-at}
+use Rattle.runs.proofs.Zeros.{zeros-at}
+use Rattle.blocks.specs.Layout.{sessionSize, tableRoom, blockSize, tableOf, blockForm, taken, classCount, ownClasses, anyKinds, noLinks, freshBlock}
+use Rattle.blocks.proofs.Shape.{GoodBlock, block-ends}
+use Rattle.blocks.proofs.Bytes.{MadeOf, made-of, byte-from}
 
 -- the form of v joints of which nothing is known: each a class of its own, with kind 1 and no known link
 pub record Blank (v : ℕ) (S : Form) : Type 0 where
@@ -73,27 +76,7 @@ module _ {v : ℕ} {S : Form} (b : Blank v S) where
   pub blank-classes : classes S v ≡ v
   blank-classes = own-class v (omega arith)
 
--- a list of values by their places, and a list that zeros follow
-each-length : (f : ℕ → ℕ) (i count : ℕ) → length (each f i count) ≡ count
-unfolding each
-each-length f i zero = refl
-each-length f i (suc count) = ap suc (each-length f (suc i) count)
-
-each-from : (f : ℕ → ℕ) (i count k : ℕ) → k < count → getD (each f i count) k 0 ≡ f (i + k)
-unfolding each
-each-from f i zero k h = absurd (omega arith)
-each-from f i (suc count) zero h = let e : i ≡ i + 0 = omega arith in ap f e
-each-from f i (suc count) (suc k) h =
-    let e : suc i + k ≡ i + suc k = omega arith in each-from f (suc i) count k (omega arith) ∙ ap f e
-
-each-at : (f : ℕ → ℕ) (count k : ℕ) → k < count → getD (each f 0 count) k 0 ≡ f k
-each-at f count k h = let e : 0 + k ≡ k = omega arith in each-from f 0 count k h ∙ ap f e
-
-zeros-at : (m i : ℕ) → _≡_ {A = ℕ} (getD (replicate m 0) i 0) 0
-zeros-at zero i = refl
-zeros-at (suc m) zero = refl
-zeros-at (suc m) (suc i) = zeros-at m i
-
+-- a list that zeros follow
 zeros-behind : (xs : List ℕ) (m i : ℕ) → length xs ≤ i → getD (xs ++ replicate m 0) i 0 ≡ 0
 zeros-behind xs m i h =
     byte-from (length xs) (xs ++ replicate m 0) i h
@@ -109,60 +92,42 @@ module _ (v j a : ℕ) where
   behind h = rw (le-ltb j v h)
 
 module _ (n v : ℕ) (table : List ℕ) where
-  -- the parts of a fresh block behind n and V
-  freshClasses : List ℕ
-  freshClasses = each (λ j. cond (ltb j v) j 0) 0 64
-
-  freshKinds : List ℕ
-  freshKinds = each (λ j. cond (ltb j v) 1 0) 0 64
-
-  freshRows : List ℕ
-  freshRows = replicate (16 * v) unknown ++ replicate (1024 - 16 * v) 0
-
-  freshRest : List ℕ
-  freshRest = table ++ replicate (4096 - length table) 0
+  -- the room of its table
+  freshRoom : List ℕ
+  freshRoom = table ++ replicate (tableRoom - length table) 0
 
   module _ (z : Sized n table) (high : v ≤ 64) where
-    rows-length : length freshRows ≡ 1024
-    unfolding freshRows
+    rows-length : length (noLinks v) ≡ 1024
     rows-length = simp (length-append, length-replicate) (omega arith)
 
-    rest-length : length freshRest ≡ 4096
-    unfolding freshRest
-    rest-length = simp (length-append, length-replicate) (omega (arith, z .size, square-le (z .high)))
+    room-length : length freshRoom ≡ tableRoom
+    unfolding freshRoom
+    room-length = simp (length-append, length-replicate) (omega (arith, z .size, square-le (z .high)))
 
-    fresh-joined : Joined (freshBlock n v table) (n ∷ v ∷ []) freshClasses freshKinds freshRows freshRest
-    unfolding freshClasses freshKinds freshRows freshRest
-    fresh-joined =
-        rw (append-assoc (replicate (16 * v) unknown) (replicate (1024 - 16 * v) 0) freshRest) at
-        (joined (n ∷ v ∷ []) freshClasses freshKinds freshRows freshRest refl (each-length _ 0 64) (each-length _ 0 64) rows-length)
+    fresh-parts : MadeOf (freshBlock n v table) (n ∷ v ∷ []) (ownClasses v) (anyKinds v) (noLinks v) freshRoom
+    unfolding freshRoom
+    fresh-parts = made-of (n ∷ v ∷ []) (ownClasses v) (anyKinds v) (noLinks v) freshRoom refl (each-length _ 0 64) (each-length _ 0 64) rows-length
 
-    pub fresh-opened : Opened n v table (freshBlock n v table)
-    unfolding freshRest
-    fresh-opened =
-        record {
-          size = omega (arith, fresh-joined .size, rest-length);
-          kinds = refl;
-          joints = refl;
-          table = ap (take (n * n)) (fresh-joined .behind) ∙ take-at table (replicate (4096 - length table) 0) (n * n) (z .size);
-        }
+    fresh-size : length (freshBlock n v table) ≡ blockSize
+    fresh-size = omega (arith, fresh-parts .size, room-length)
+
+    pub fresh-table : tableOf (freshBlock n v table) ≡ table
+    unfolding freshRoom
+    fresh-table = ap (take (n * n)) (fresh-parts .behind) ∙ take-at table (replicate (tableRoom - length table) 0) (n * n) (z .size)
 
     class-at : (j : ℕ) → j < 64 → blockForm (freshBlock n v table) .class j ≡ cond (ltb j v) j 0
-    unfolding freshClasses
-    class-at j h = rw (fresh-joined .classes) (each-at (λ j. cond (ltb j v) j 0) 64 j h)
+    class-at j h = rw (fresh-parts .classes) (each-at (λ j. cond (ltb j v) j 0) 64 j h)
 
     kind-at : (j : ℕ) → j < 64 → blockForm (freshBlock n v table) .kind j ≡ cond (ltb j v) 1 0
-    unfolding freshKinds
-    kind-at j h = rw (fresh-joined .kinds) (each-at (λ j. cond (ltb j v) 1 0) 64 j h)
+    kind-at j h = rw (fresh-parts .kinds) (each-at (λ j. cond (ltb j v) 1 0) 64 j h)
 
     pub fresh-blank : Blank v (blockForm (freshBlock n v table))
-    unfolding freshRows
     fresh-blank =
         record {
           class = λ j h. class-at j (omega arith) ∙ below v j j h;
           kind = λ j h. kind-at j (omega arith) ∙ below v j 1 h;
           link = λ j l h g.
-              rw (fresh-joined .rows)
+              rw (fresh-parts .rows)
               (List·getD-append (replicate (16 * v) unknown) (replicate (1024 - 16 * v) 0) 0 (j * 16 + l) (simp length-replicate (omega arith))
               ∙ getD-replicate (16 * v) (j * 16 + l) unknown 0 (omega arith));
           class-rest = λ j h.
@@ -170,28 +135,32 @@ module _ (n v : ℕ) (table : List ℕ) where
           kind-rest = λ j h.
               by-cases (decLt j 64) (λ g. kind-at j g ∙ behind v j 1 h) (λ d. block-ends (freshBlock n v table) .kind j (omega arith));
           link-rest = λ j l h g.
-              rw (fresh-joined .rows)
+              rw (fresh-parts .rows)
               (zeros-behind (replicate (16 * v) unknown) (1024 - 16 * v) (j * 16 + l) (simp length-replicate (omega arith)));
         }
 
-    pub fresh-well : 1 ≤ v → tableReply n table ≡ Done 0 → WellBlock (freshBlock n v table)
-    unfolding freshRest
-    fresh-well low passes =
+    pub fresh-good : 1 ≤ v → tableReply n table ≡ Done 0 → GoodBlock (freshBlock n v table)
+    unfolding freshRoom
+    fresh-good low passes =
         record {
-          n-low = z .low;
-          n-high = z .high;
-          v-low = low;
-          v-high = high;
-          passes = rw (fresh-opened .table) passes;
-          well = blank-well fresh-blank (z .low);
-          zeros = λ i h g.
-              byte-from 1154 (freshBlock n v table) i (omega arith)
-              ∙ ap (λ (d : List ℕ). getD d (i - 1154) 0) (fresh-joined .behind)
-              ∙ zeros-behind table (4096 - length table) (i - 1154) (omega (arith, z .size));
+          size = fresh-size;
+          well =
+              record {
+                n-low = z .low;
+                n-high = z .high;
+                v-low = low;
+                v-high = high;
+                passes = rw fresh-table passes;
+                well = blank-well fresh-blank (z .low);
+                zeros = λ i h.
+                    byte-from sessionSize (freshBlock n v table) i (omega arith)
+                    ∙ ap (λ (d : List ℕ). getD d (i - sessionSize) 0) (fresh-parts .behind)
+                    ∙ zeros-behind table (tableRoom - length table) (i - sessionSize) (omega (arith, z .size));
+              };
         }
 
-    pub fresh-facts : takenFacts v (blockForm (freshBlock n v table)) ≡ []
+    pub fresh-facts : taken (freshBlock n v table) ≡ []
     fresh-facts = blank-facts fresh-blank
 
-    pub fresh-classes : classes (blockForm (freshBlock n v table)) v ≡ v
+    pub fresh-classes : classCount (freshBlock n v table) ≡ v
     fresh-classes = blank-classes fresh-blank

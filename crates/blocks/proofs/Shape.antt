@@ -1,28 +1,35 @@
 -- A block is well formed exactly when n and V are in range, its table passes the check, its form is well formed and the bytes behind the
 -- table are zero: each test of the definition is read as the fact it tests, both ways. The form's lists end at joint 64, so that joints
--- from there on have class, kind and links 0 without a test.
+-- from there on have class, kind and links 0 without a test. And what the reply to a lent block tells of it.
 -- Assumes nothing.
 use mathlib.Core.Path.{_≡_, refl, sym, ap, _∙_}
 use mathlib.Core.Logic.{_≢_, _⊎_, inl, inr, ⊎-elim, by-cases, Dec·and}
 use mathlib.Core.Bool.{Bool, true, false, not, _&&_, _||_, cond}
-use mathlib.Core.List.{List}
+use mathlib.Core.List.{List, [], _∷_}
 use Prim.Native.Nat.{ℕ, zero, suc, _+_, _-_, _*_, _<_, _≤_}
 use native.Mathlib.Omega.{arith}
 use native.Mathlib.Decide.{ℕ-discrete, decLt}
 use lib.Dec.{eqb, leb, ltb}
 use lib.ListN.{length, getD, take, drop, length-take, length-drop, List·getD-eq-default}
-use lib.Seq.{length-take-le}
-use borrow.Author.Tests.{eqb-true, eq-eqb, leb-true, le-leb, ltb-true, lt-ltb, ltb-false, le-ltb, not-true}
-use Rattle.kinds.specs.Kinds.{Lawful, meetAt}
+use lib.Seq.{length-take-le, getD-drop}
+use borrow.Author.Tests.{eqb-true, eq-eqb, ne-eqb, leb-true, le-leb, ltb-true, lt-ltb, ltb-false, le-ltb, not-true}
 use Rattle.kinds.proofs.Offset.{square-le}
+use Rattle.replies.specs.declared.Cause.the-variants.{BadSize, BadBlock}
 use Rattle.replies.specs.declared.Reply.{Reply}
-use Rattle.replies.specs.declared.Reply.the-variants.{Done}
-use Rattle.replies.specs.Replies.{refuses}
-use Rattle.tables.specs.Check.{Sized, inOrder, tableReply}
+use Rattle.replies.specs.declared.Reply.the-variants.{Done, Refused}
+use Rattle.replies.specs.Replies.{refuses, firstRefusal}
+use Rattle.replies.proofs.Laws.{first-none, first-next, first-passed, test-here, test-next, test-passed}
+use Rattle.runs.specs.Runs.{allZero}
+use Rattle.runs.proofs.Zeros.{zero-at, all-zero}
+use Rattle.tables.specs.Check.{inOrder, tableReply}
+use Rattle.tables.specs.Sizes.{Sized}
 use Rattle.tables.proofs.Lawfulness.{passes-done, passes-lawful}
-use Rattle.meaning.specs.Form.{Form, unknown, Smallest, Well}
-use Rattle.blocks.specs.Layout.{blockSize, kindsOf, jointsOf, tableOf, blockForm}
-use Rattle.blocks.specs.WellFormed.{all, smallest, classFits, kindFits, linkFits, jointFits, wellFormed}
+use Rattle.meaning.specs.Form.{Form, unknown}
+use Rattle.meaning.specs.Solving.{Smallest, Well}
+use Rattle.meaning.specs.Rig.{Rig}
+use Rattle.meaning.proofs.Rigs.{LawfulRig}
+use Rattle.blocks.specs.Layout.{sessionSize, blockSize, kindsOf, jointsOf, blockForm, roomOf, tableOf, rigOf}
+use Rattle.blocks.specs.WellFormed.{all, within, smallest, classFits, kindFits, linkFits, jointFits, tableFits, jointsFit, wellFormed, blockReply, Stands}
 
 -- the clauses of a well-formed block
 pub record WellBlock (b : List ℕ) : Type 0 where
@@ -32,7 +39,7 @@ pub record WellBlock (b : List ℕ) : Type 0 where
   pub v-high : jointsOf b ≤ 64
   pub passes : tableReply (kindsOf b) (tableOf b) ≡ Done 0
   pub well : Well (kindsOf b) (jointsOf b) (blockForm b)
-  pub zeros : (i : ℕ) → 1154 + kindsOf b * kindsOf b ≤ i → i < 5250 → getD b i 0 ≡ 0
+  pub zeros : (i : ℕ) → sessionSize + kindsOf b * kindsOf b ≤ i → getD b i 0 ≡ 0
 
 -- two tests of which both, or one, pass; and the test that is chosen by another
 both : (a b : Bool) → a ≡ true → b ≡ true → (a && b) ≡ true
@@ -87,21 +94,21 @@ pub record Ends (S : Form) : Type 0 where
   pub link : (j l : ℕ) → 64 ≤ j → S .link j l ≡ 0
 
 module _ (n v : ℕ) (S : Form) where
-  smallest-use : (j : ℕ) → smallest n v S j ≡ true → Smallest v S j
+  smallest-use : (j : ℕ) → smallest v S j ≡ true → Smallest v S j
   smallest-use j e =
       (ltb-true _ _ (left (ltb j v) (eqb (S .class j) j) e), eqb-true _ _ (right (ltb j v) (eqb (S .class j) j) e))
 
-  smallest-make : (j : ℕ) → Smallest v S j → smallest n v S j ≡ true
+  smallest-make : (j : ℕ) → Smallest v S j → smallest v S j ≡ true
   smallest-make j h = both (ltb j v) (eqb (S .class j) j) (lt-ltb _ _ (h .0)) (eq-eqb _ _ (h .1))
 
-  smallest-not : (j : ℕ) → (Smallest v S j → ⊥) → smallest n v S j ≡ false
-  smallest-not j d = is-false (smallest n v S j) (λ e. d (smallest-use j e))
+  smallest-not : (j : ℕ) → (Smallest v S j → ⊥) → smallest v S j ≡ false
+  smallest-not j d = is-false (smallest v S j) (λ e. d (smallest-use j e))
     where
       is-false : (a : Bool) → (a ≡ true → ⊥) → a ≡ false
       is-false true f = absurd (f refl)
       is-false false f = refl
 
-  not-smallest : (j : ℕ) → smallest n v S j ≡ false → Smallest v S j → ⊥
+  not-smallest : (j : ℕ) → smallest v S j ≡ false → Smallest v S j → ⊥
   not-smallest j e h = let z : _≡_ {A = Bool} true false = sym (smallest-make j h) ∙ e in let q : _≡_ {A = ℕ} 0 1 = cc in omega arith
 
   by-smallest : {C : Type 0} (j : ℕ) → (Smallest v S j → C) → ((Smallest v S j → ⊥) → C) → C
@@ -109,37 +116,37 @@ module _ (n v : ℕ) (S : Form) where
 
   -- where every joint fits, the form is well formed
   module _ (fits : (j : ℕ) → j < 64 → jointFits n v S j ≡ true) where
-    class-fits : (j : ℕ) → j < 64 → classFits n v S j ≡ true
-    class-fits j h = left (classFits n v S j) (kindFits n v S j && all (linkFits n v S j) 0 16) (fits j h)
+    class-fits : (j : ℕ) → j < 64 → classFits v S j ≡ true
+    class-fits j h = left (classFits v S j) (kindFits n v S j && all (linkFits v S j) 0 16) (fits j h)
 
-    rest-fits : (j : ℕ) → j < 64 → (kindFits n v S j && all (linkFits n v S j) 0 16) ≡ true
-    rest-fits j h = right (classFits n v S j) (kindFits n v S j && all (linkFits n v S j) 0 16) (fits j h)
+    rest-fits : (j : ℕ) → j < 64 → (kindFits n v S j && all (linkFits v S j) 0 16) ≡ true
+    rest-fits j h = right (classFits v S j) (kindFits n v S j && all (linkFits v S j) 0 16) (fits j h)
 
     kind-fits : (j : ℕ) → j < 64 → kindFits n v S j ≡ true
-    kind-fits j h = left (kindFits n v S j) (all (linkFits n v S j) 0 16) (rest-fits j h)
+    kind-fits j h = left (kindFits n v S j) (all (linkFits v S j) 0 16) (rest-fits j h)
 
-    link-fits : (j l : ℕ) → j < 64 → l < 16 → linkFits n v S j l ≡ true
+    link-fits : (j l : ℕ) → j < 64 → l < 16 → linkFits v S j l ≡ true
     link-fits j l h b =
-        all-use (linkFits n v S j) 0 16 (right (kindFits n v S j) (all (linkFits n v S j) 0 16) (rest-fits j h)) l (omega arith) (omega arith)
+        all-use (linkFits v S j) 0 16 (right (kindFits n v S j) (all (linkFits v S j) 0 16) (rest-fits j h)) l (omega arith) (omega arith)
 
     in-range : (j : ℕ) → j < 64 → Smallest v S j → (leb 1 (S .kind j) && ltb (S .kind j) n) ≡ true
-    in-range j h s = then (smallest n v S j) _ (eqb (S .kind j) 0) (smallest-make j s) (kind-fits j h)
+    in-range j h s = then (smallest v S j) _ (eqb (S .kind j) 0) (smallest-make j s) (kind-fits j h)
 
     -- below v a class number is at most its joint, and a smallest joint
-    numbered : (j : ℕ) → j < 64 → j < v → (leb (S .class j) j && smallest n v S (S .class j)) ≡ true
+    numbered : (j : ℕ) → j < 64 → j < v → (leb (S .class j) j && smallest v S (S .class j)) ≡ true
     numbered j h g = then (ltb j v) _ (eqb (S .class j) 0) (lt-ltb _ _ g) (class-fits j h)
 
     module _ (low : 1 ≤ n) (high : v ≤ 64) (ends : Ends S) where
       kind-rest : (j : ℕ) → (Smallest v S j → ⊥) → S .kind j ≡ 0
       kind-rest j d =
           by-cases (decLt j 64)
-          (λ h. eqb-true _ _ (else (smallest n v S j) _ (eqb (S .kind j) 0) (smallest-not j d) (kind-fits j h)))
+          (λ h. eqb-true _ _ (else (smallest v S j) _ (eqb (S .kind j) 0) (smallest-not j d) (kind-fits j h)))
           (λ f. ends .kind j (omega arith))
 
       link-rest : (j l : ℕ) → (Smallest v S j → ⊥) → l < 16 → S .link j l ≡ 0
       link-rest j l d b =
           by-cases (decLt j 64)
-          (λ h. eqb-true _ _ (else (smallest n v S j) _ (eqb (S .link j l) 0) (smallest-not j d) (link-fits j l h b)))
+          (λ h. eqb-true _ _ (else (smallest v S j) _ (eqb (S .link j l) 0) (smallest-not j d) (link-fits j l h b)))
           (λ f. ends .link j l (omega arith))
 
       fits-well : Well n v S
@@ -157,7 +164,7 @@ module _ (n v : ℕ) (S : Form) where
             link-smallest = λ j l s b.
                 ⊎-elim (λ e. inl (eqb-true _ _ e)) (λ e. inr (smallest-use _ e))
                 (either (eqb (S .link j l) unknown) _
-                (then (smallest n v S j) _ (eqb (S .link j l) 0) (smallest-make j s) (link-fits j l (omega arith) b)));
+                (then (smallest v S j) _ (eqb (S .link j l) 0) (smallest-make j s) (link-fits j l (omega arith) b)));
             kind-rest = kind-rest;
             link-rest = link-rest;
             class-rest = λ j h.
@@ -169,27 +176,27 @@ module _ (n v : ℕ) (S : Form) where
   -- in a well-formed form every joint fits
   well-fits : Well n v S → (j : ℕ) → jointFits n v S j ≡ true
   well-fits w j =
-      both (classFits n v S j) (kindFits n v S j && all (linkFits n v S j) 0 16)
+      both (classFits v S j) (kindFits n v S j && all (linkFits v S j) 0 16)
       (chosen (ltb j v) _ (eqb (S .class j) 0)
       (λ e.
       let h : j < v = ltb-true _ _ e in
       both (leb (S .class j) j) _ (le-leb _ _ (w .class-le j h))
       (smallest-make _ (omega (arith, w .class-le j h), w .class-smallest j h)))
       (λ e. eq-eqb _ _ (w .class-rest j (ltb-false _ _ e))))
-      (both (kindFits n v S j) (all (linkFits n v S j) 0 16)
-      (chosen (smallest n v S j) _ (eqb (S .kind j) 0)
+      (both (kindFits n v S j) (all (linkFits v S j) 0 16)
+      (chosen (smallest v S j) _ (eqb (S .kind j) 0)
       (λ e.
       let some : S .kind j ≢ 0 = w .kind-some j (smallest-use j e) in
       both (leb 1 (S .kind j)) _ (le-leb 1 (S .kind j) (omega arith)) (lt-ltb _ _ (w .kind-in j)))
       (λ e. eq-eqb _ _ (w .kind-rest j (not-smallest j e))))
-      (all-make (linkFits n v S j) 0 16
+      (all-make (linkFits v S j) 0 16
       (λ l a b.
-      chosen (smallest n v S j) _ (eqb (S .link j l) 0)
+      chosen (smallest v S j) _ (eqb (S .link j l) 0)
       (λ e. link-end l (w .link-smallest j l (smallest-use j e) (omega arith)))
       (λ e. eq-eqb _ _ (w .link-rest j l (not-smallest j e) (omega arith))))))
     where
       link-end : (l : ℕ) → (S .link j l ≡ unknown) ⊎ Smallest v S (S .link j l) →
-          (eqb (S .link j l) unknown || smallest n v S (S .link j l)) ≡ true
+          (eqb (S .link j l) unknown || smallest v S (S .link j l)) ≡ true
       link-end l (inl e) = rw (eq-eqb _ _ e)
       link-end l (inr s) = or-right (eqb (S .link j l) unknown) _ (smallest-make _ s)
 
@@ -206,37 +213,22 @@ block-ends b =
     }
 
 module _ (b : List ℕ) where
-  -- the five tests of a block
-  n-fits : Bool
-  n-fits = leb 2 (kindsOf b) && leb (kindsOf b) 64
-
-  v-fits : Bool
-  v-fits = leb 1 (jointsOf b) && leb (jointsOf b) 64
-
-  table-passes : Bool
-  table-passes = not (refuses (tableReply (kindsOf b) (tableOf b)))
-
-  joints-fit : Bool
-  joints-fit = all (jointFits (kindsOf b) (jointsOf b) (blockForm b)) 0 64
-
-  zero-behind : Bool
-  zero-behind = all (λ i. eqb (getD b i 0) 0) (1154 + kindsOf b * kindsOf b) (4096 - kindsOf b * kindsOf b)
-
-  five : wellFormed b ≡ (n-fits && (v-fits && (table-passes && (joints-fit && zero-behind))))
-  unfolding wellFormed n-fits v-fits table-passes joints-fit zero-behind
-  five = refl
+  behind-table : (i : ℕ) → getD (drop (kindsOf b * kindsOf b) (roomOf b)) i 0 ≡ getD b (sessionSize + kindsOf b * kindsOf b + i) 0
+  behind-table i =
+      getD-drop (kindsOf b * kindsOf b) (roomOf b) i 0
+      ∙ getD-drop sessionSize b (kindsOf b * kindsOf b + i) 0
+      ∙ ap (λ (k : ℕ). getD b k 0) (omega arith)
 
   pub taken-apart : wellFormed b ≡ true → WellBlock b
-  unfolding n-fits v-fits table-passes joints-fit zero-behind
+  unfolding tableFits jointsFit
   taken-apart e =
       let n = kindsOf b in
       let v = jointsOf b in
-      let all-five = sym five ∙ e in
-      let behind-n = right n-fits (v-fits && (table-passes && (joints-fit && zero-behind))) all-five in
-      let behind-v = right v-fits (table-passes && (joints-fit && zero-behind)) behind-n in
-      let behind-table = right table-passes (joints-fit && zero-behind) behind-v in
-      let in-n = left n-fits (v-fits && (table-passes && (joints-fit && zero-behind))) all-five in
-      let in-v = left v-fits (table-passes && (joints-fit && zero-behind)) behind-n in
+      let fits = left (tableFits n (roomOf b)) (jointsFit n b) e in
+      let joints = right (tableFits n (roomOf b)) (jointsFit n b) e in
+      let in-n = left (within 2 64 n) (table-passes && rest-zero) fits in
+      let in-v = left (within 1 64 v) joints-fit joints in
+      let behind-n = right (within 2 64 n) (table-passes && rest-zero) fits in
       let low : 2 ≤ n = leb-true 2 n (left (leb 2 n) (leb n 64) in-n) in
       let high : v ≤ 64 = leb-true v 64 (right (leb 1 v) (leb v 64) in-v) in
       record {
@@ -246,32 +238,40 @@ module _ (b : List ℕ) where
         v-high = high;
         passes =
             passes-done n (tableOf b) (inOrder n)
-            (not-true (refuses (tableReply n (tableOf b))) (left table-passes (joints-fit && zero-behind) behind-v));
+            (not-true (refuses (tableReply n (tableOf b))) (left table-passes rest-zero behind-n));
         well =
             fits-well n v (blockForm b)
-            (λ j h.
-            all-use (jointFits n v (blockForm b)) 0 64 (left joints-fit zero-behind behind-table) j (omega arith) (omega arith))
+            (λ j h. all-use (jointFits n v (blockForm b)) 0 64 (right (within 1 64 v) joints-fit joints) j (omega arith) (omega arith))
             (omega arith) high (block-ends b);
-        zeros = λ i h g.
-            eqb-true (getD b i 0) 0
-            (all-use (λ i. eqb (getD b i 0) 0) (1154 + n * n) (4096 - n * n) (right joints-fit zero-behind behind-table) i h (omega arith));
+        zeros = λ i h.
+            let k : sessionSize + n * n + (i - (sessionSize + n * n)) ≡ i = omega arith in
+            ap (λ (m : ℕ). getD b m 0) (sym k)
+            ∙ sym (behind-table (i - (sessionSize + n * n)))
+            ∙ zero-at (drop (n * n) (roomOf b)) (right table-passes rest-zero behind-n) (i - (sessionSize + n * n));
       }
+    where
+      table-passes : Bool
+      table-passes = not (refuses (tableReply (kindsOf b) (tableOf b)))
+
+      rest-zero : Bool
+      rest-zero = allZero (drop (kindsOf b * kindsOf b) (roomOf b))
+
+      joints-fit : Bool
+      joints-fit = all (jointFits (kindsOf b) (jointsOf b) (blockForm b)) 0 64
 
   pub put-together : WellBlock b → wellFormed b ≡ true
-  unfolding n-fits v-fits table-passes joints-fit zero-behind
+  unfolding tableFits jointsFit
   put-together w =
       let n = kindsOf b in
       let v = jointsOf b in
-      five
-      ∙ both n-fits (v-fits && (table-passes && (joints-fit && zero-behind)))
+      both (tableFits n (roomOf b)) (jointsFit n b)
+      (both (within 2 64 n) _
       (both (leb 2 n) (leb n 64) (le-leb _ _ (w .n-low)) (le-leb _ _ (w .n-high)))
-      (both v-fits (table-passes && (joints-fit && zero-behind))
+      (both (not (refuses (tableReply n (tableOf b)))) _ (ap (λ (r : Reply). not (refuses r)) (w .passes))
+      (all-zero (drop (n * n) (roomOf b)) (λ i. behind-table i ∙ w .zeros _ (omega arith)))))
+      (both (within 1 64 v) _
       (both (leb 1 v) (leb v 64) (le-leb _ _ (w .v-low)) (le-leb _ _ (w .v-high)))
-      (both table-passes (joints-fit && zero-behind) (ap (λ (r : Reply). not (refuses r)) (w .passes))
-      (both joints-fit zero-behind
-      (all-make (jointFits n v (blockForm b)) 0 64 (λ j _ _. well-fits n v (blockForm b) (w .well) j))
-      (all-make (λ i. eqb (getD b i 0) 0) (1154 + n * n) (4096 - n * n)
-      (λ i h g. eq-eqb _ _ (w .zeros i h (omega (arith, square-le (w .n-high)))))))))
+      (all-make (jointFits n v (blockForm b)) 0 64 (λ j _ _. well-fits n v (blockForm b) (w .well) j)))
 
 -- what a caller needs of a well-formed block's numbers and table
 module _ {b : List ℕ} (w : WellBlock b) where
@@ -287,13 +287,60 @@ module _ {b : List ℕ} (w : WellBlock b) where
   pub square-high : kindsOf b * kindsOf b ≤ 4096
   square-high = square-le (w .n-high)
 
-  pub block-lawful : Lawful (kindsOf b) (meetAt (kindsOf b) (tableOf b))
-  block-lawful = passes-lawful (kindsOf b) (tableOf b) (w .passes)
+  pub block-rig : LawfulRig (rigOf b)
+  block-rig =
+      record {
+        lawful = passes-lawful (kindsOf b) (tableOf b) (w .passes);
+        two = w .n-low;
+        some = w .v-low;
+        few = w .v-high;
+      }
 
   pub block-sized : length b ≡ blockSize → Sized (kindsOf b) (tableOf b)
   block-sized size =
       record {
         low = w .n-low;
         high = w .n-high;
-        size = length-take-le (kindsOf b * kindsOf b) (drop 1154 b) (omega (arith, length-drop 1154 b, square-high));
+        size = length-take-le (kindsOf b * kindsOf b) (roomOf b) (omega (arith, length-drop sessionSize b, square-high));
       }
+
+-- a well-formed block of the right size
+pub record GoodBlock (b : List ℕ) : Type 0 where
+  pub size : length b ≡ blockSize
+  pub well : WellBlock b
+
+module _ (b : List ℕ) where
+  pub good-block : refuses (blockReply b) ≡ false → GoodBlock b
+  unfolding blockReply
+  good-block e =
+      let sized = test-passed (eqb (length b) blockSize) _ _ _ _ e in
+      let formed = test-passed (wellFormed b) _ _ _ _ (sized .1) in
+      record { size = eqb-true (length b) blockSize (sized .0); well = taken-apart b (formed .0) }
+
+  pub wrong-size : (length b ≡ blockSize → ⊥) → blockReply b ≡ Refused BadSize 0
+  unfolding blockReply
+  wrong-size d = test-here _ _ _ _ _ (ne-eqb (length b) blockSize d)
+
+  pub not-well : length b ≡ blockSize → wellFormed b ≡ false → blockReply b ≡ Refused BadBlock 0
+  unfolding blockReply
+  not-well e w = test-next _ _ _ _ _ (eq-eqb (length b) blockSize e) ∙ test-here _ _ _ _ _ w
+
+  pub all-well : length b ≡ blockSize → wellFormed b ≡ true → blockReply b ≡ Done 0
+  unfolding blockReply
+  all-well e w = test-next _ _ _ _ _ (eq-eqb (length b) blockSize e) ∙ test-next _ _ _ _ _ w ∙ first-none (Done 0)
+
+pub block-done : {b : List ℕ} → GoodBlock b → blockReply b ≡ Done 0
+block-done {b} g = all-well b (g .size) (put-together b (g .well))
+
+-- a call that goes on past the reply to its block has a good block
+pub call-goes-on : (b : List ℕ) (next : Reply) → firstRefusal (blockReply b ∷ []) next ≡ Done 0 → GoodBlock b × (next ≡ Done 0)
+call-goes-on b next e =
+    let passed = first-passed (blockReply b) [] next (ap refuses e) in
+    (good-block b (passed .0), sym (first-next (blockReply b) [] next (passed .0) ∙ first-none next) ∙ e)
+
+-- a good block stands for its own rig, and a block that stands for a rig is good
+pub stands-itself : {b : List ℕ} → GoodBlock b → Stands (rigOf b) b
+stands-itself {b} g = record { size = g .size; well = put-together b (g .well); rig = refl }
+
+pub stands-good : {R : Rig} {b : List ℕ} → Stands R b → GoodBlock b
+stands-good {b = b} s = record { size = s .size; well = taken-apart b (s .well) }

@@ -14,15 +14,15 @@ struct Answer {
 // The call with this letter. The block is lent to it, for writing the output, and bytes beside: a table, a packet, for writing the block.
 fn reply_to(letter: u8, n: u64, v: u64, lent: &mut [u8], bytes: &[u8]) -> Reply {
     if letter == b'o' {
-        return session::open::open(n, v, bytes, lent);
+        return opening::open(n, v, bytes, lent);
     }
     if letter == b't' {
-        return session::take::take(lent, bytes);
+        return taking::take(lent, bytes);
     }
     if letter == b'a' {
-        return session::ask::ask(lent, bytes);
+        return asking::ask(lent, bytes);
     }
-    session::write::write(bytes, lent)
+    writing::write(bytes, lent)
 }
 
 // The same with so many bytes of two rooms.

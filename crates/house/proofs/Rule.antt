@@ -10,7 +10,8 @@ use native.Mathlib.Omega.{arith}
 use lib.Dec.{T, eqb, eqb→eq, ltb, ltb→lt}
 use lib.ListN.{getD}
 use lib.Arith.{digits-div, digits-mod, digits-lt}
-use Rattle.kinds.specs.Kinds.{Lawful, Under, Greatest, meetAt}
+use Rattle.kinds.specs.Kinds.{Under, meetAt}
+use Rattle.kinds.specs.Laws.{Lawful, Greatest}
 use Rattle.kinds.proofs.Order.{greatest-lawful, greatest-one}
 use Rattle.replies.specs.declared.Reply.the-variants.{Done}
 use Rattle.tables.specs.Check.{tableReply}

@@ -4,7 +4,8 @@
 use mathlib.Core.Path.{_≡_, _∙_, sym, ap}
 use Prim.Native.Nat.{ℕ, _<_}
 use native.Mathlib.Omega.{arith}
-use Rattle.kinds.specs.Kinds.{Lawful, Under, Greatest}
+use Rattle.kinds.specs.Kinds.{Under}
+use Rattle.kinds.specs.Laws.{Lawful, Greatest}
 
 module _ {n : ℕ} {meet : ℕ → ℕ → ℕ} (L : Lawful n meet) where
   pub under-refl : (i : ℕ) → i < n → Under meet i i

@@ -7,17 +7,19 @@ use mathlib.Core.List.{List, map, List·Memᴰ, List·Memᴰ·head, List·Memᴰ
 use Prim.Native.Nat.{ℕ, _+_, _-_, _<_, _≤_}
 use native.Mathlib.Omega.{arith}
 use native.Mathlib.Decide.{ℕ-discrete, decLt}
-use Rattle.kinds.specs.Kinds.{Lawful}
+use Rattle.kinds.specs.Laws.{Lawful}
 use Rattle.kinds.proofs.Order.{under-antisym}
 use Rattle.meaning.specs.declared.RigJoint.{RigJoint}
 use Rattle.meaning.specs.declared.RuleJoint.{RuleJoint}
 use Rattle.meaning.specs.declared.Tie.{Tie}
-use Rattle.meaning.specs.Picture.{Picture, Placing, Fact, All, rename, Every}
+use Rattle.meaning.specs.Picture.{Picture, Placing, Fact, All, rename}
+use Rattle.meaning.specs.Rig.{Rig, meetOf}
 use Rattle.meaning.specs.Rule.{Rule, ruleJoint, Agree, Found, Reached, Applies, RuledOut}
 use Rattle.meaning.specs.Rule.Reached.{by-tie, by-link}
-use Rattle.meaning.specs.Form.{Form, unknown, Smallest, Well, takenFacts}
-use Rattle.meaning.specs.Solving.{InRange, AllInRange, Models, Taken, Refuted}
+use Rattle.meaning.specs.Form.{Form, unknown, takenFacts}
+use Rattle.meaning.specs.Solving.{Smallest, Well, InRange, AllInRange, Models, Taken, Refuted}
 use Rattle.meaning.specs.Asking.{TiesInRange, RuleInRange, ruleNumber, ruleNode, ruleNodeFacts, Extends, Settled}
+use Rattle.meaning.proofs.Rigs.{LawfulRig, counts-every}
 use Rattle.meaning.proofs.Facts.{byNumber, all-member, models→taken, taken→models}
 use Rattle.meaning.proofs.Canon.{Map, map-found, atClass, class-smallest, canon, element-smallest}
 use Rattle.meaning.proofs.Canon.{canon-placing, canon-rig-placing, canon-models, applies-canon, canon-applies}
@@ -39,8 +41,27 @@ tie-range v k (List·Memᴰ·head e) a = rw e (a .0)
 tie-range v k (List·Memᴰ·tail m) a = tie-range v k m (a .1)
 
 module _
-    {n : ℕ} {meet : ℕ → ℕ → ℕ} (L : Lawful n meet) (two : 1 < n) {v : ℕ} (pos : 0 < v) {S : Form} (w : Well n v S)
-    {r : Rule} (ir : RuleInRange n v r) (small : v + r .joints ≤ unknown) {E : Form} (x : Extends v (r .joints) S E) where
+    {R : Rig} (g : LawfulRig R) {S : Form} (w : Well (R .kinds) (R .joints) S)
+    {r : Rule} (ir : RuleInRange (R .kinds) (R .joints) r) (small : R .joints + r .joints ≤ unknown)
+    {E : Form} (x : Extends (R .joints) (r .joints) S E) where
+  abbrev n : ℕ
+  n = R .kinds
+
+  abbrev v : ℕ
+  v = R .joints
+
+  abbrev meet : ℕ → ℕ → ℕ
+  meet = meetOf R
+
+  abbrev L : Lawful (R .kinds) (meetOf R)
+  L = g .lawful
+
+  abbrev two : 1 < R .kinds
+  two = g .two
+
+  abbrev pos : 0 < R .joints
+  pos = g .some
+
   -- a model of S in which the rule is found is a model of E
   module _ (P : Picture n) (σ : RigJoint → ℕ) (f : Found meet P σ r) where
     found-models : Models meet v S P (byNumber σ) → Models meet (v + r .joints) E P (beside v σ (f .τ))
@@ -48,25 +69,22 @@ module _
         models-extended two w x P (beside v σ (f .τ)) L
         (models-agree meet P v w (byNumber σ) (beside v σ (f .τ)) (beside-rig v σ (f .τ)) m)
 
-  pub clash-ruled-out : Refuted n meet (v + r .joints) E (ruleNodeFacts v r) → RuledOut {n = n} meet Every (takenFacts v S) r
+  pub clash-ruled-out : Refuted n meet (v + r .joints) E (ruleNodeFacts v r) → RuledOut R (takenFacts v S) r
   clash-ruled-out c P σ _ placed a f =
       c P (beside v σ (f .τ)) (beside-placing v σ (f .τ) P placed (f .placed))
       (found-models P σ f (taken→models L two v S P σ a))
       (found-nodes meet P v r ir σ f)
 
-  pub ruled-out-clash : RuledOut {n = n} meet Every (takenFacts v S) r → Refuted n meet (v + r .joints) E (ruleNodeFacts v r)
+  pub ruled-out-clash : RuledOut R (takenFacts v S) r → Refuted n meet (v + r .joints) E (ruleNodeFacts v r)
   ruled-out-clash o P ρ placed m a =
-      o P (atRig ρ) tt (λ j. placed (j .0))
+      o P (atRig ρ) (counts-every (R .profile) P) (λ j. placed (j .0))
       (models→taken L two v S P (atRig ρ) (extended-models two w x P ρ m))
       (nodes-found meet P v r ρ a placed)
 
   -- the ties and facts are taken: T
   module _ {T : Form} (t : Taken n meet (v + r .joints) E (ruleNodeFacts v r) T) where
     all-pos : 0 < v + r .joints
-    all-pos = omega arith
-
-    rig-small : v ≤ unknown
-    rig-small = omega arith
+    all-pos = omega (arith, g .some)
 
     abbrev cT : Picture n
     cT = canon all-pos (t .well)
@@ -85,7 +103,7 @@ module _
     T-found : Found meet cT (atClass T) r
     T-found = nodes-found meet cT v r (T .class) (T-models .1) (canon-placing all-pos (t .well))
 
-    pub taken-not-out : RuledOut {n = n} meet Every (takenFacts v S) r → ⊥
+    pub taken-not-out : RuledOut R (takenFacts v S) r → ⊥
     taken-not-out o = taken-not-refuted L all-pos t (ruled-out-clash o)
 
     -- nothing new: T's picture is S's
@@ -113,9 +131,9 @@ module _
             link = λ e l b h k. sym (same-link e l b);
           }
 
-      pub settled-applies : Applies {n = n} meet Every (takenFacts v S) r
+      pub settled-applies : Applies R (takenFacts v S) r
       settled-applies =
-          canon-applies L two pos w Every r rig-small ir
+          canon-applies g w r ir
           (map-found L cT cS (λ e. e) back v (atClass T) (atClass S) (λ j h. sym (q .class (j .0) h)) r ir T-found)
 
     -- the rule is found in S's picture: nothing new is settled
@@ -207,5 +225,5 @@ module _
       found-settled reached = record { class = class; kind = kind; link = link; inside = λ i h. inside (ruleJoint i) (reached i h) }
 
     pub applies-settled : ((i : ℕ) → i < r .joints → Reached r (ruleJoint i)) →
-        Applies {n = n} meet Every (takenFacts v S) r → Settled v (r .joints) S T
-    applies-settled reached applies = found-settled (applies-canon L two pos w Every r tt applies) reached
+        Applies R (takenFacts v S) r → Settled v (r .joints) S T
+    applies-settled reached applies = found-settled (applies-canon g w r applies) reached

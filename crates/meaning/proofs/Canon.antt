@@ -7,17 +7,20 @@ use mathlib.Core.List.{List, [], _∷_, map}
 use Prim.Native.Nat.{ℕ, _<_, _≤_}
 use native.Mathlib.Omega.{arith}
 use native.Mathlib.Decide.{ℕ-discrete, decLt}
-use Rattle.kinds.specs.Kinds.{Lawful, Under}
+use Rattle.kinds.specs.Kinds.{Under}
+use Rattle.kinds.specs.Laws.{Lawful}
 use Rattle.kinds.proofs.Order.{under-trans}
 use Rattle.meaning.specs.declared.RigJoint.{RigJoint}
 use Rattle.meaning.specs.declared.RuleJoint.{RuleJoint}
 use Rattle.meaning.specs.declared.Tie.{Tie}
 use Rattle.meaning.specs.Picture.{Picture, Element, Placing, Fact, All, rename}
 use Rattle.meaning.specs.Picture.Fact.{has-kind, same, leads}
+use Rattle.meaning.specs.Rig.{Rig, meetOf}
 use Rattle.meaning.specs.Rule.{Rule, Agree, Found, Applies, RuledOut}
-use Rattle.meaning.specs.Form.{Form, unknown, Smallest, Well, factsOf, rigJoint, takenFacts}
-use Rattle.meaning.specs.Solving.{AllInRange, Models}
+use Rattle.meaning.specs.Form.{Form, unknown, factsOf, rigJoint, takenFacts}
+use Rattle.meaning.specs.Solving.{Smallest, Well, AllInRange, Models}
 use Rattle.meaning.specs.Asking.{TiesInRange, RuleInRange, ruleNumber}
+use Rattle.meaning.proofs.Rigs.{LawfulRig, counts-every}
 use Rattle.meaning.proofs.Facts.{byNumber, models→facts, models→taken, taken→models}
 
 -- a map of pictures: elements to elements, kinds at most, links kept where they are defined
@@ -121,17 +124,29 @@ module _ {n : ℕ} {meet : ℕ → ℕ → ℕ} (L : Lawful n meet) (two : 1 < n
   pub canon-taken : All meet (canon pos w) (atClass S) (takenFacts v S)
   canon-taken = models→taken L two v S (canon pos w) (atClass S) (canon-models L pos w)
 
-  -- a rule applies exactly when it is found in the form's picture
-  module _ (Counts : Picture n → Type 0) (r : Rule) where
-    pub applies-canon : Counts (canon pos w) → Applies meet Counts (takenFacts v S) r → Found meet (canon pos w) (atClass S) r
-    applies-canon counts f = f (canon pos w) (atClass S) counts (canon-rig-placing pos w) canon-taken
+-- a rule applies exactly when it is found in the form's picture
+module _ {R : Rig} (g : LawfulRig R) {S : Form} (w : Well (R .kinds) (R .joints) S) (r : Rule) where
+  here : Picture (R .kinds)
+  here = canon (g .some) w
 
-    pub canon-applies : v ≤ unknown → RuleInRange n v r → Found meet (canon pos w) (atClass S) r → Applies meet Counts (takenFacts v S) r
-    canon-applies small ir f P σ _ placed a =
-        let m : Models meet v S P (byNumber σ) = taken→models L two v S P σ a in
-        map-found L (canon pos w) P (byNumber σ) (initial L pos w small P (byNumber σ) (λ j. placed (rigJoint j)) m)
-        v (atClass S) σ (λ j. m .one (j .0)) r ir f
+  taken-here : All (meetOf R) here (atClass S) (takenFacts (R .joints) S)
+  unfolding here
+  taken-here = canon-taken (g .lawful) (g .two) (g .some) w
 
-    -- no rule both applies and is ruled out
-    pub applies-not-ruled-out : Counts (canon pos w) → Applies meet Counts (takenFacts v S) r → RuledOut meet Counts (takenFacts v S) r → ⊥
-    applies-not-ruled-out counts f o = o (canon pos w) (atClass S) counts (canon-rig-placing pos w) canon-taken (applies-canon counts f)
+  pub applies-canon : Applies R (takenFacts (R .joints) S) r → Found (meetOf R) (canon (g .some) w) (atClass S) r
+  unfolding here
+  applies-canon f = f here (atClass S) (counts-every (R .profile) here) (canon-rig-placing (g .some) w) taken-here
+
+  pub canon-applies :
+      RuleInRange (R .kinds) (R .joints) r → Found (meetOf R) (canon (g .some) w) (atClass S) r → Applies R (takenFacts (R .joints) S) r
+  canon-applies ir f P σ _ placed a =
+      let m : Models (meetOf R) (R .joints) S P (byNumber σ) = taken→models (g .lawful) (g .two) (R .joints) S P σ a in
+      map-found (g .lawful) (canon (g .some) w) P (byNumber σ)
+      (initial (g .lawful) (g .some) w (omega (arith, g .few)) P (byNumber σ) (λ j. placed (rigJoint j)) m)
+      (R .joints) (atClass S) σ (λ j. m .one (j .0)) r ir f
+
+  -- no rule both applies and is ruled out
+  pub applies-not-ruled-out : Applies R (takenFacts (R .joints) S) r → RuledOut R (takenFacts (R .joints) S) r → ⊥
+  unfolding here
+  applies-not-ruled-out f o =
+      o here (atClass S) (counts-every (R .profile) here) (canon-rig-placing (g .some) w) taken-here (applies-canon f)

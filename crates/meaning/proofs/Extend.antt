@@ -10,15 +10,15 @@ use native.Mathlib.Omega.{arith}
 use native.Mathlib.Decide.{decLt}
 use lib.Dec.{ltb}
 use borrow.Author.Tests.{lt-ltb, le-ltb}
-use Rattle.kinds.specs.Kinds.{Lawful}
+use Rattle.kinds.specs.Laws.{Lawful}
 use Rattle.kinds.proofs.Order.{under-any}
 use Rattle.meaning.specs.declared.RigJoint.{RigJoint}
 use Rattle.meaning.specs.declared.RuleJoint.{RuleJoint}
 use Rattle.meaning.specs.declared.Tie.{Tie}
 use Rattle.meaning.specs.Picture.{Picture, Placing, All, rename}
 use Rattle.meaning.specs.Rule.{Rule, ruleJoint, Agree, Found}
-use Rattle.meaning.specs.Form.{Form, Smallest, Well, rigJoint}
-use Rattle.meaning.specs.Solving.{Models}
+use Rattle.meaning.specs.Form.{Form, rigJoint}
+use Rattle.meaning.specs.Solving.{Smallest, Well, Models}
 use Rattle.meaning.specs.Asking.{RuleInRange, ruleNode, tieFact, ruleNodeFacts, Extends}
 use Rattle.meaning.proofs.Facts.{keep, all-append, all-left, all-right, all-rename}
 use Rattle.meaning.proofs.Canon.{agree-along}

@@ -10,7 +10,8 @@ use native.Mathlib.Omega.{arith}
 use native.Mathlib.Decide.{ℕ-discrete}
 use lib.Dec.{eqb}
 use borrow.Author.Tests.{eqb-true, eqb-false, eq-eqb, ne-eqb}
-use Rattle.kinds.specs.Kinds.{Lawful, Under}
+use Rattle.kinds.specs.Kinds.{Under}
+use Rattle.kinds.specs.Laws.{Lawful}
 use Rattle.kinds.proofs.Order.{under-any}
 use Rattle.meaning.specs.declared.RigJoint.{RigJoint}
 use Rattle.meaning.specs.Picture.{Picture, Fact, Holds, All, rename}

@@ -1,5 +1,8 @@
+pub mod Rigs
 pub mod Facts
+pub mod SameForm
 pub mod Canon
+pub mod Classes
 pub mod Unique
 pub mod Takes
 pub mod Extend

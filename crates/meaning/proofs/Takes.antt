@@ -3,12 +3,13 @@
 -- Assumes nothing.
 use mathlib.Core.List.{List, [], _++_, map}
 use Prim.Native.Nat.{ℕ, _<_}
-use Rattle.kinds.specs.Kinds.{Lawful}
+use Rattle.kinds.specs.Laws.{Lawful}
 use Rattle.meaning.specs.declared.RigJoint.{RigJoint}
-use Rattle.meaning.specs.Picture.{Picture, Fact, All, rename, Clash, SameMeaning, Every}
-use Rattle.meaning.specs.Form.{Form, Well, rigJoint, takenFacts}
-use Rattle.meaning.specs.Solving.{rigNumber}
-use Rattle.meaning.specs.Solving.{Models, Taken, Refuted}
+use Rattle.meaning.specs.Picture.{Picture, Fact, All, rename}
+use Rattle.meaning.specs.Rig.{Rig, meetOf, NoPicture, SameMeaning}
+use Rattle.meaning.specs.Form.{Form, rigJoint, takenFacts}
+use Rattle.meaning.specs.Solving.{Well, rigNumber, Models, Taken, Refuted}
+use Rattle.meaning.proofs.Rigs.{LawfulRig, counts-every}
 use Rattle.meaning.proofs.Facts.{byNumber, all-append, all-left, all-right, all-rename, models→taken, taken→models}
 use Rattle.meaning.proofs.Canon.{canon, canon-placing, canon-models}
 
@@ -52,34 +53,40 @@ module _ {n : ℕ} {meet : ℕ → ℕ → ℕ} (L : Lawful n meet) {v : ℕ} (p
       c (canon pos (t .well)) (T .class) (canon-placing pos (t .well)) (m .0) (m .1)
 
 -- new facts on rig joints, taken at the nodes of their numbers
-module _ {n : ℕ} {meet : ℕ → ℕ → ℕ} (L : Lawful n meet) (two : 1 < n) (v : ℕ) (S : Form) (fs : List (Fact RigJoint)) where
+module _ {R : Rig} (g : LawfulRig R) (S : Form) (fs : List (Fact RigJoint)) where
+  abbrev v : ℕ
+  v = R .joints
+
+  abbrev meet : ℕ → ℕ → ℕ
+  meet = meetOf R
+
   -- the taken and the new facts, at nodes
-  to-nodes : (P : Picture n) (σ : RigJoint → ℕ) → All meet P σ (takenFacts v S ++ fs) →
+  to-nodes : (P : Picture (R .kinds)) (σ : RigJoint → ℕ) → All meet P σ (takenFacts v S ++ fs) →
       Models meet v S P (byNumber σ) × All meet P (byNumber σ) (map (rename rigNumber) fs)
   to-nodes P σ a = (
-    taken→models L two v S P σ (all-left meet P σ (takenFacts v S) fs a),
+    taken→models (g .lawful) (g .two) v S P σ (all-left meet P σ (takenFacts v S) fs a),
     all-rename meet P rigNumber (byNumber σ) fs .1 (all-right meet P σ (takenFacts v S) fs a),
   )
 
-  from-nodes : (P : Picture n) (σ : RigJoint → ℕ) →
+  from-nodes : (P : Picture (R .kinds)) (σ : RigJoint → ℕ) →
       Models meet v S P (byNumber σ) → All meet P (byNumber σ) (map (rename rigNumber) fs) → All meet P σ (takenFacts v S ++ fs)
   from-nodes P σ m a =
       all-append meet P σ (takenFacts v S) fs
-      (models→taken L two v S P σ m)
+      (models→taken (g .lawful) (g .two) v S P σ m)
       (all-rename meet P rigNumber (byNumber σ) fs .0 a)
 
-  pub taken-means : {T : Form} → Taken n meet v S (map (rename rigNumber) fs) T →
-      SameMeaning {n = n} meet Every (takenFacts v T) (takenFacts v S ++ fs)
+  pub taken-means : {T : Form} → Taken (R .kinds) meet v S (map (rename rigNumber) fs) T →
+      SameMeaning R (takenFacts v T) (takenFacts v S ++ fs)
   taken-means {T} t P σ _ placed = (
     λ a.
         let m : Models meet v S P (byNumber σ) × All meet P (byNumber σ) (map (rename rigNumber) fs) =
-        t .means P (byNumber σ) (λ j. placed (rigJoint j)) .0 (taken→models L two v T P σ a) in
+        t .means P (byNumber σ) (λ j. placed (rigJoint j)) .0 (taken→models (g .lawful) (g .two) v T P σ a) in
         from-nodes P σ (m .0) (m .1),
-    λ a. models→taken L two v T P σ (t .means P (byNumber σ) (λ j. placed (rigJoint j)) .1 (to-nodes P σ a)),
+    λ a. models→taken (g .lawful) (g .two) v T P σ (t .means P (byNumber σ) (λ j. placed (rigJoint j)) .1 (to-nodes P σ a)),
   )
 
-  pub refuted-clash : Refuted n meet v S (map (rename rigNumber) fs) → Clash {n = n} meet Every (takenFacts v S ++ fs)
+  pub refuted-clash : Refuted (R .kinds) meet v S (map (rename rigNumber) fs) → NoPicture R (takenFacts v S ++ fs)
   refuted-clash c P σ _ placed a = c P (byNumber σ) (λ j. placed (rigJoint j)) (to-nodes P σ a .0) (to-nodes P σ a .1)
 
-  pub clash-refuted : Clash {n = n} meet Every (takenFacts v S ++ fs) → Refuted n meet v S (map (rename rigNumber) fs)
-  clash-refuted c P σ placed m a = c P (λ j. σ (j .0)) tt (λ j. placed (j .0)) (from-nodes P (λ j. σ (j .0)) m a)
+  pub clash-refuted : NoPicture R (takenFacts v S ++ fs) → Refuted (R .kinds) meet v S (map (rename rigNumber) fs)
+  clash-refuted c P σ placed m a = c P (λ j. σ (j .0)) (counts-every (R .profile) P) (λ j. placed (j .0)) (from-nodes P (λ j. σ (j .0)) m a)

@@ -7,20 +7,18 @@ use mathlib.Core.List.{List}
 use Prim.Native.Nat.{ℕ, _<_, _≤_}
 use native.Mathlib.Omega.{arith}
 use native.Mathlib.Decide.{ℕ-discrete, decLt}
-use Rattle.kinds.specs.Kinds.{Lawful, Under}
+use Rattle.kinds.specs.Kinds.{Under}
+use Rattle.kinds.specs.Laws.{Lawful}
 use Rattle.kinds.proofs.Order.{under-antisym}
 use Rattle.meaning.specs.declared.RigJoint.{RigJoint}
-use Rattle.meaning.specs.Picture.{Picture, Placing, Fact, SameMeaning, Every}
-use Rattle.meaning.specs.Form.{Form, unknown, Smallest, Well, takenFacts}
-use Rattle.meaning.specs.Solving.{Models, Taken}
+use Rattle.meaning.specs.Picture.{Picture, Placing, Fact}
+use Rattle.meaning.specs.Rig.{Rig, meetOf, SameMeaning}
+use Rattle.meaning.specs.Form.{Form, unknown, takenFacts}
+use Rattle.meaning.specs.Solving.{Smallest, Well, Models, Taken}
+use Rattle.meaning.proofs.Rigs.{LawfulRig, counts-every}
 use Rattle.meaning.proofs.Facts.{taken→models}
+use Rattle.meaning.proofs.SameForm.{SameForm}
 use Rattle.meaning.proofs.Canon.{canon, canon-placing, canon-rig-placing, canon-models, canon-taken, atClass}
-
--- equal at every joint
-pub record SameForm (S T : Form) : Type 0 where
-  pub class : (j : ℕ) → S .class j ≡ T .class j
-  pub kind : (j : ℕ) → S .kind j ≡ T .kind j
-  pub link : (j l : ℕ) → l < 16 → S .link j l ≡ T .link j l
 
 module _
     {n : ℕ} {meet : ℕ → ℕ → ℕ} {v : ℕ} (pos : 0 < v) {S T : Form} (s : Well n v S) (t : Well n v T)
@@ -91,19 +89,25 @@ module _ {n : ℕ} {meet : ℕ → ℕ → ℕ} (L : Lawful n meet) {v : ℕ} (p
       (e _ _ (canon-placing pos s) .0 (canon-models L pos s))
       (e _ _ (canon-placing pos t) .1 (canon-models L pos t))
 
-  -- taken facts of one meaning, over pictures among which those of both forms count
-  pub same-meaning : 1 < n → (Counts : Picture n → Type 0) → Counts (canon pos s) → Counts (canon pos t) →
-      SameMeaning meet Counts (takenFacts v S) (takenFacts v T) → SameForm S T
-  same-meaning two Counts cs ct e =
-      each-satisfies
-      (taken→models L two v T (canon pos s) (atClass S) (e _ _ cs (canon-rig-placing pos s) .0 (canon-taken L two pos s)))
-      (taken→models L two v S (canon pos t) (atClass T) (e _ _ ct (canon-rig-placing pos t) .1 (canon-taken L two pos t)))
+-- over a rig: taken facts of one meaning
+module _ {R : Rig} (g : LawfulRig R) {S T : Form} (s : Well (R .kinds) (R .joints) S) (t : Well (R .kinds) (R .joints) T) where
+  pub same-meaning : SameMeaning R (takenFacts (R .joints) S) (takenFacts (R .joints) T) → SameForm S T
+  same-meaning e =
+      let v = R .joints in
+      let L = g .lawful in
+      let cs = canon (g .some) s in
+      let ct = canon (g .some) t in
+      each-satisfies L (g .some) s t
+      (taken→models L (g .two) v T cs (atClass S)
+      (e cs (atClass S) (counts-every (R .profile) cs) (canon-rig-placing (g .some) s) .0 (canon-taken L (g .two) (g .some) s)))
+      (taken→models L (g .two) v S ct (atClass T)
+      (e ct (atClass T) (counts-every (R .profile) ct) (canon-rig-placing (g .some) t) .1 (canon-taken L (g .two) (g .some) t)))
 
   -- two forms that mean what one list of facts means
-  pub one-form : 1 < n → (gs : List (Fact RigJoint)) →
-      SameMeaning {n = n} meet Every (takenFacts v S) gs → SameMeaning {n = n} meet Every (takenFacts v T) gs → SameForm S T
-  one-form two gs a b =
-      same-meaning two Every tt tt
+  pub one-form :
+      (gs : List (Fact RigJoint)) → SameMeaning R (takenFacts (R .joints) S) gs → SameMeaning R (takenFacts (R .joints) T) gs → SameForm S T
+  one-form gs a b =
+      same-meaning
       (λ P σ c placed. (λ x. b P σ c placed .1 (a P σ c placed .0 x), λ x. a P σ c placed .1 (b P σ c placed .0 x)))
 
 -- two forms that a taking allows

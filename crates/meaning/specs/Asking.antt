@@ -12,7 +12,7 @@ use Rattle.meaning.specs.Rule.{Rule}
 use Rattle.meaning.specs.Form.{Form, unknown}
 use Rattle.meaning.specs.Solving.{AllInRange}
 
--- the numbers of a rule are in range: rule joints below its count, rig joints below v, kinds below n, links below 16
+-- the ties name rule joints below k and rig joints below v
 abbrev pub TiesInRange : ℕ → ℕ → List Tie → Type 0
 TiesInRange v k [] = Unit {0}
 TiesInRange v k (t ∷ ts) = ((t .rule .0 < k) × (t .rig .0 < v)) × TiesInRange v k ts
@@ -20,6 +20,7 @@ TiesInRange v k (t ∷ ts) = ((t .rule .0 < k) × (t .rig .0 < v)) × TiesInRang
 abbrev pub ruleNumber : RuleJoint → ℕ
 ruleNumber u = u .0
 
+-- the numbers of a rule are in range: rule joints below its count, rig joints below v, kinds below n, links below 16
 pub record RuleInRange (n v : ℕ) (r : Rule) : Type 0 where
   pub ties : TiesInRange v (r .joints) (r .ties)
   pub facts : AllInRange n (r .joints) (map (rename ruleNumber) (r .facts))

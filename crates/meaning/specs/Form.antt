@@ -1,10 +1,8 @@
--- Solved forms of v joints: when one is well formed, and its facts in the order in which they are written.
+-- Solved forms of v joints, and their facts in the order in which they are written.
 -- Assumes nothing.
-use mathlib.Core.Path.{_≡_}
-use mathlib.Core.Logic.{_≢_, _⊎_}
 use mathlib.Core.Bool.{cond}
 use mathlib.Core.List.{List, [], _∷_, _++_, map}
-use Prim.Native.Nat.{ℕ, zero, suc, _+_, _*_, _<_, _≤_}
+use Prim.Native.Nat.{ℕ, zero, suc, _+_, _*_}
 use lib.Dec.{eqb}
 use lib.ListN.{getD}
 use Rattle.meaning.specs.declared.RigJoint.{RigJoint}
@@ -25,24 +23,6 @@ listForm classes kinds links =
 -- a link that is not known
 abbrev pub unknown : ℕ
 unknown = 255
-
--- j is its class's smallest joint, by which the class is numbered
-abbrev pub Smallest : ℕ → Form → ℕ → Type 0
-Smallest v S j = (j < v) × (S .class j ≡ j)
-
-pub record Well (n v : ℕ) (S : Form) : Type 0 where
-  -- a class number is a class's smallest joint, and at most its joint
-  pub class-le : (j : ℕ) → j < v → S .class j ≤ j
-  pub class-smallest : (j : ℕ) → j < v → S .class (S .class j) ≡ S .class j
-  -- every class has a kind from 1 to n - 1
-  pub kind-some : (j : ℕ) → Smallest v S j → S .kind j ≢ 0
-  pub kind-in : (j : ℕ) → S .kind j < n
-  -- a link is not known or leads to a class's smallest joint
-  pub link-smallest : (j l : ℕ) → Smallest v S j → l < 16 → (S .link j l ≡ unknown) ⊎ Smallest v S (S .link j l)
-  -- other joints have kind 0 and a zero row, as have joints from v on, whose class is 0
-  pub kind-rest : (j : ℕ) → (Smallest v S j → ⊥) → S .kind j ≡ 0
-  pub link-rest : (j l : ℕ) → (Smallest v S j → ⊥) → l < 16 → S .link j l ≡ 0
-  pub class-rest : (j : ℕ) → v ≤ j → S .class j ≡ 0
 
 -- the known links of joint j, from link l on, of the next count
 unfoldable pub linksFrom : Form → ℕ → ℕ → ℕ → List (Fact ℕ)

@@ -1,4 +1,5 @@
 pub mod Picture
+pub mod Rig
 pub mod Rule
 pub mod Form
 pub mod Solving

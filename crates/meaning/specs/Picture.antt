@@ -1,7 +1,7 @@
 -- 'Meaning': pictures, placings, the three facts, and what it is for them to hold.
 -- Assumes nothing.
 use mathlib.Core.Path.{_≡_}
-use mathlib.Core.Logic.{_≢_, _↔_}
+use mathlib.Core.Logic.{_≢_}
 use mathlib.Core.List.{List, [], _∷_}
 use Prim.Native.Nat.{ℕ, _<_, _≤_}
 use Rattle.kinds.specs.Kinds.{Under}
@@ -50,16 +50,3 @@ abbrev pub rename : {J K : Type 0} → (J → K) → Fact J → Fact K
 rename f (has-kind a s) = has-kind (f a) s
 rename f (same a b) = same (f a) (f b)
 rename f (leads a l c) = leads (f a) l (f c)
-
--- Over the pictures that count: all of them, or those of a profile.
-module _ {n : ℕ} {J : Type 0} (meet : ℕ → ℕ → ℕ) (Counts : Picture n → Type 0) where
-  -- no picture and placing satisfy the facts
-  abbrev pub Clash : List (Fact J) → Type 0
-  Clash fs = (P : Picture n) (σ : J → ℕ) → Counts P → Placing P σ → All meet P σ fs → ⊥
-
-  -- exactly the same pictures and placings satisfy both
-  abbrev pub SameMeaning : List (Fact J) → List (Fact J) → Type 0
-  SameMeaning fs gs = (P : Picture n) (σ : J → ℕ) → Counts P → Placing P σ → All meet P σ fs ↔ All meet P σ gs
-
-abbrev pub Every : {n : ℕ} → Picture n → Type 0
-Every P = Unit {0}

@@ -10,6 +10,7 @@ use Rattle.meaning.specs.declared.Verdict.{Verdict}
 use Rattle.meaning.specs.declared.Verdict.the-variants as verdict
 use Rattle.meaning.specs.Picture.{Picture, Placing, Fact, All}
 use Rattle.meaning.specs.Picture.Fact.{leads}
+use Rattle.meaning.specs.Rig.{Rig, meetOf, Counts}
 
 abbrev pub ruleJoint : ℕ → RuleJoint
 ruleJoint j = record { 0 = j }
@@ -37,12 +38,14 @@ pub data Reached (r : Rule) : RuleJoint → Type 0 where
   by-link : {a c : RuleJoint} {l : ℕ} → List·Memᴰ (leads a l c) (r .facts) → Reached r a → Reached r c
 
 -- the verdicts on a rule, given the taken facts
-module _ {n : ℕ} (meet : ℕ → ℕ → ℕ) (Counts : Picture n → Type 0) (taken : List (Fact RigJoint)) (r : Rule) where
+module _ (R : Rig) (taken : List (Fact RigJoint)) (r : Rule) where
   abbrev pub Applies : Type 0
-  Applies = (P : Picture n) (σ : RigJoint → ℕ) → Counts P → Placing P σ → All meet P σ taken → Found meet P σ r
+  Applies =
+      (P : Picture (R .kinds)) (σ : RigJoint → ℕ) → Counts (R .profile) P → Placing P σ → All (meetOf R) P σ taken → Found (meetOf R) P σ r
 
   abbrev pub RuledOut : Type 0
-  RuledOut = (P : Picture n) (σ : RigJoint → ℕ) → Counts P → Placing P σ → All meet P σ taken → Found meet P σ r → ⊥
+  RuledOut =
+      (P : Picture (R .kinds)) (σ : RigJoint → ℕ) → Counts (R .profile) P → Placing P σ → All (meetOf R) P σ taken → Found (meetOf R) P σ r → ⊥
 
   -- what each verdict says; a rule that neither applies nor is ruled out waits. None both applies and is ruled out where the taken facts
   -- have a picture, as those of a well-formed block do.

@@ -1,15 +1,33 @@
--- What the solver's steps do, in the words of forms. These stand between the contracts of the calls and the solver's code; no exported
+-- When a form is well formed, and what the solver's steps do, in the words of forms. These stand between the contracts of the calls and the solver's code; no exported
 -- contract rests on them.
 -- Assumes nothing.
 use mathlib.Core.Path.{_≡_}
-use mathlib.Core.Logic.{_≢_, _↔_}
+use mathlib.Core.Logic.{_≢_, _⊎_, _↔_}
 use mathlib.Core.List.{List, [], _∷_}
-use Prim.Native.Nat.{ℕ, _<_}
+use Prim.Native.Nat.{ℕ, _<_, _≤_}
 use Rattle.kinds.specs.Kinds.{Under}
 use Rattle.meaning.specs.declared.RigJoint.{RigJoint}
 use Rattle.meaning.specs.Picture.{Picture, Placing, Fact, All}
 use Rattle.meaning.specs.Picture.Fact.{has-kind, same, leads}
-use Rattle.meaning.specs.Form.{Form, unknown, Smallest, Well}
+use Rattle.meaning.specs.Form.{Form, unknown}
+
+-- j is its class's smallest joint, by which the class is numbered
+abbrev pub Smallest : ℕ → Form → ℕ → Type 0
+Smallest v S j = (j < v) × (S .class j ≡ j)
+
+pub record Well (n v : ℕ) (S : Form) : Type 0 where
+  -- a class number is a class's smallest joint, and at most its joint
+  pub class-le : (j : ℕ) → j < v → S .class j ≤ j
+  pub class-smallest : (j : ℕ) → j < v → S .class (S .class j) ≡ S .class j
+  -- every class has a kind from 1 to n - 1
+  pub kind-some : (j : ℕ) → Smallest v S j → S .kind j ≢ 0
+  pub kind-in : (j : ℕ) → S .kind j < n
+  -- a link is not known or leads to a class's smallest joint
+  pub link-smallest : (j l : ℕ) → Smallest v S j → l < 16 → (S .link j l ≡ unknown) ⊎ Smallest v S (S .link j l)
+  -- other joints have kind 0 and a zero row, as have joints from v on, whose class is 0
+  pub kind-rest : (j : ℕ) → (Smallest v S j → ⊥) → S .kind j ≡ 0
+  pub link-rest : (j l : ℕ) → (Smallest v S j → ⊥) → l < 16 → S .link j l ≡ 0
+  pub class-rest : (j : ℕ) → v ≤ j → S .class j ≡ 0
 
 -- the node of a rig joint
 abbrev pub rigNumber : RigJoint → ℕ

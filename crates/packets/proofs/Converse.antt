@@ -1,14 +1,15 @@
 -- A packet whose tests all pass is well formed: the definitions' tests, passed one after the other. Its facts are read off four bytes each.
 -- Assumes nothing.
-use mathlib.Core.Path.{_≡_, refl, _∙_}
-use mathlib.Core.Bool.{Bool, true, not, _&&_, cond}
+use mathlib.Core.Path.{_≡_, refl, ap, _∙_}
+use mathlib.Core.Bool.{Bool, true, _&&_}
 use mathlib.Core.List.{List}
 use Prim.Native.Nat.{ℕ, suc, _+_}
 use lib.Dec.{eqb}
 use borrow.Author.Tests.{eq-eqb, lt-ltb}
-use Rattle.replies.specs.declared.Reply.{Reply}
-use Rattle.replies.specs.declared.Reply.the-variants.{Done, BadLength, BadVersion, BadHeader, BadCount}
-use Rattle.replies.proofs.Laws.{or-second}
+use Rattle.replies.specs.declared.Reply.the-variants.{Done}
+use Rattle.replies.specs.Replies.{refuses}
+use Rattle.replies.proofs.Laws.{first-next, first-none, test-next}
+use Rattle.runs.specs.Runs.{each}
 use Rattle.meaning.specs.Picture.{Fact, rename}
 use Rattle.meaning.specs.Picture.Fact.{has-kind, same, leads}
 use Rattle.meaning.specs.Solving.{InRange}
@@ -19,10 +20,6 @@ use Rattle.packets.specs.Facts.{factOf}
 pub both-true : (a b : Bool) → a ≡ true → b ≡ true → (a && b) ≡ true
 both-true a b p q = cc
 
--- a test that is passed leaves the tests behind it
-passes : (b : Bool) (x y : Reply) → b ≡ true → cond (not b) x y ≡ y
-passes b x y e = rw e
-
 module _ (w : Wanted) (n v : ℕ) (p : List ℕ) where
   pub packet-fits :
       lengthFits p ≡ true → version p ≡ 1 → purpose p ≡ w .purpose → within (w .ties) (ties p) ≡ true →
@@ -30,21 +27,22 @@ module _ (w : Wanted) (n v : ℕ) (p : List ℕ) where
       packetReply w n v p ≡ Done 0
   unfolding packetReply
   packet-fits length version-1 purposed tied jointed counted no-tie no-fact =
-      passes (lengthFits p) BadLength _ length
-      ∙ passes (eqb (version p) 1) BadVersion _ (eq-eqb _ _ version-1)
-      ∙ passes (eqb (purpose p) (w .purpose)) (BadHeader 3) _ (eq-eqb _ _ purposed)
-      ∙ passes (within (w .ties) (ties p)) (BadHeader 4) _ tied
-      ∙ passes (within (w .joints) (joints p)) (BadHeader 5) _ jointed
-      ∙ passes (countFits p) BadCount _ counted
-      ∙ or-second (tiesReply v p) (factsReply n p) (rw no-tie)
+      test-next _ _ _ _ _ length
+      ∙ test-next _ _ _ _ _ (eq-eqb _ _ version-1)
+      ∙ test-next _ _ _ _ _ (eq-eqb _ _ purposed)
+      ∙ test-next _ _ _ _ _ tied
+      ∙ test-next _ _ _ _ _ jointed
+      ∙ test-next _ _ _ _ _ counted
+      ∙ first-next _ _ _ (ap refuses no-tie)
+      ∙ first-none _
       ∙ no-fact
 
 -- the first part fits, and those behind it
 pub fits-then :
     (fits : ℕ → Bool) (at : ℕ → ℕ) (i count : ℕ) → fits (at i) ≡ true → firstUnfit fits at (suc i) count ≡ Done 0 →
     firstUnfit fits at i (suc count) ≡ Done 0
-unfolding firstUnfit
-fits-then fits at i count e rest = rw e rest
+unfolding firstUnfit each
+fits-then fits at i count e rest = test-next _ _ _ _ _ e ∙ rest
 
 -- the four bytes at a place
 pub record Four (p : List ℕ) (at w x y z : ℕ) : Type 0 where

@@ -1,12 +1,10 @@
--- What a packet says, part by part: a list made of the numbers in turn, its members, and the facts under other names of joints.
+-- What a packet says, part by part: its facts under other names of joints, and that those of the code stand for different facts.
 -- Assumes nothing.
-use mathlib.Core.Path.{_≡_, refl, ap, _∙_}
-use mathlib.Core.Logic.{⊎-elim}
+use mathlib.Core.Path.{_≡_, refl}
 use mathlib.Core.Bool.{Bool, true, false, cond}
-use mathlib.Core.List.{List, [], _∷_, _++_, map, List·Memᴰ, List·Memᴰ·head, List·Memᴰ·tail, List·Memᴰ·cases-cons, List·Memᴰ·not-nil, Memᴰ·cast}
-use Prim.Native.Nat.{ℕ, zero, suc, _+_, _≤_, _<_}
+use mathlib.Core.List.{List, map}
+use Prim.Native.Nat.{ℕ, zero, suc, _+_, _<_}
 use native.Mathlib.Omega.{arith}
-use native.Mathlib.Nat.{not-suc-le-zero, le-of-suc-le-suc, add-zero}
 use lib.Dec.{eqb}
 use Rattle.meaning.specs.declared.RigFact.{RigFact}
 use Rattle.meaning.specs.declared.RigFact.the-variants as rig-fact
@@ -17,37 +15,8 @@ use Rattle.meaning.specs.Picture.Fact.{has-kind, same, leads}
 use Rattle.meaning.specs.Solving.{InRange, AllInRange}
 use Rattle.packets.specs.Packet.{byte, factAt}
 use Rattle.runs.specs.Runs.{each}
-use Rattle.packets.specs.Facts.{factOf, rigFact, ruleFact}
-
--- the numbers from i on, one more of them
-pub each-more : {A : Type 0} (f : ℕ → A) (i count : ℕ) → each f i (suc count) ≡ each f i count ++ (f (i + count) ∷ [])
-unfolding each
-each-more f i zero = ap (λ (k : ℕ). f k ∷ []) (omega arith)
-each-more f i (suc count) =
-    ap (_∷_ (f i)) (each-more f (suc i) count ∙ ap (λ (k : ℕ). each f (suc i) count ++ (f k ∷ [])) (omega arith))
-
--- a member is one of them
-pub record Among {A : Type 0} (f : ℕ → A) (i count : ℕ) (x : A) : Type 0 where
-  pub at : ℕ
-  pub from : i ≤ at
-  pub below : at < i + count
-  pub is : x ≡ f at
-
-pub among : {A : Type 0} (f : ℕ → A) (i count : ℕ) {x : A} → List·Memᴰ x (each f i count) → Among f i count x
-unfolding each
-among f i zero m = absurd (List·Memᴰ·not-nil m)
-among f i (suc count) m =
-    ⊎-elim (λ e. record { at = i; from = omega arith; below = omega arith; is = e })
-    (λ t. let r = among f (suc i) count t in record { at = r .at; from = omega arith; below = omega arith; is = r .is })
-    (List·Memᴰ·cases-cons m)
-
--- the k-th is a member
-pub member : {A : Type 0} (f : ℕ → A) (i count k : ℕ) → k < count → List·Memᴰ (f (i + k)) (each f i count)
-unfolding each
-member f i zero k h = absurd (not-suc-le-zero h)
-member f i (suc count) zero h = List·Memᴰ·head (ap f (add-zero i))
-member f i (suc count) (suc k) h =
-    Memᴰ·cast (ap f (omega arith)) (List·Memᴰ·tail (member f (suc i) count k (le-of-suc-le-suc h)))
+use Rattle.packets.specs.Facts.{factOf}
+use Rattle.packets.specs.Decoding.{rigFact, ruleFact}
 
 module _ {J : Type 0} (joint : ℕ → J) where
   named :

@@ -1,17 +1,21 @@
 -- The laws of the tests of a packet, and of a search for the first part that does not fit: what is left of it at each turn of a loop.
 -- Assumes nothing.
 use mathlib.Core.Path.{_≡_, refl, ap, _∙_}
-use mathlib.Core.Bool.{Bool, true, false, _&&_, cond, false≢true}
-use mathlib.Core.List.{List}
-use Prim.Native.Nat.{ℕ, zero, suc, _+_, _-_, _*_, _≤_, _<_}
+use mathlib.Core.Bool.{Bool, true, false, _&&_, false≢true}
+use mathlib.Core.List.{List, _∷_}
+use Prim.Native.Nat.{ℕ, _+_, _-_, _*_, _≤_, _<_}
 use native.Mathlib.Omega.{arith}
-use native.Mathlib.Numerals.{add-one}
-use native.Mathlib.Nat.{not-suc-le-zero, le-of-suc-le-suc, add-zero}
 use lib.ListN.{length}
 use borrow.Author.Tests.{leb-true, eqb-true}
+use Rattle.replies.specs.declared.Cause.the-variants.{BadPart}
 use Rattle.replies.specs.declared.Reply.{Reply}
-use Rattle.replies.specs.declared.Reply.the-variants.{Done, BadPart}
-use Rattle.packets.specs.Packet.{L, ties, tieAt, factAt, factCount, lengthFits, countFits, Whole, firstUnfit}
+use Rattle.replies.specs.declared.Reply.the-variants.{Done, Refused}
+use Rattle.replies.specs.Replies.{unless, firstRefusal}
+use Rattle.replies.proofs.Laws.{first-none, test-here, test-next}
+use Rattle.runs.specs.Runs.{each}
+use Rattle.runs.proofs.Each.{each-step, each-end}
+use Rattle.packets.specs.Packet.{L, ties, tieAt, factAt, factCount, lengthFits, countFits, firstUnfit}
+use Rattle.packets.specs.Decoding.{Whole}
 
 pub both : (a b : Bool) → (a && b) ≡ true → (a ≡ true) × (b ≡ true)
 both true b e = (refl, e)
@@ -47,16 +51,20 @@ pub begins : (fits : ℕ → Bool) (at : ℕ → ℕ) {n count : ℕ} → n ≡ 
 begins fits at e = record { is = ap (firstUnfit fits at 0) (omega arith) }
 
 module _ {x : Reply} {fits : ℕ → Bool} {at : ℕ → ℕ} {i n : ℕ} (l : Left x fits at i n) where
-  opened : i < n → x ≡ cond (fits (at i)) (firstUnfit fits at (i + 1) (n - (i + 1))) (BadPart (at i))
+  abbrev parts : ℕ → Reply
+  parts k = unless (fits (at k)) BadPart (at k)
+
+  turn : i < n → x ≡ firstRefusal (parts i ∷ each parts (i + 1) (n - (i + 1))) (Done 0)
   unfolding firstUnfit
-  opened h = l .is ∙ (let e : n - i ≡ suc (n - (i + 1)) = omega arith in rw (e, add-one))
+  turn h = l .is ∙ ap (λ (rs : List Reply). firstRefusal rs (Done 0)) (each-step parts h)
 
   pub passes : i < n → fits (at i) ≡ true → Left x fits at (i + 1) n
-  passes h e = record { is = opened h ∙ simp e }
+  unfolding firstUnfit
+  passes h e = record { is = turn h ∙ test-next _ _ _ _ _ e }
 
-  pub stops : i < n → fits (at i) ≡ false → x ≡ BadPart (at i)
-  stops h e = opened h ∙ simp e
+  pub stops : i < n → fits (at i) ≡ false → x ≡ Refused BadPart (at i)
+  stops h e = turn h ∙ test-here _ _ _ _ _ e
 
   pub ends : n ≤ i → x ≡ Done 0
   unfolding firstUnfit
-  ends h = l .is ∙ (let e : n - i ≡ 0 = omega arith in rw e)
+  ends h = l .is ∙ ap (λ (rs : List Reply). firstRefusal rs (Done 0)) (each-end parts h) ∙ first-none (Done 0)

@@ -6,12 +6,7 @@ use Prim.Native.Nat.{ℕ, _+_}
 use lib.Dec.{eqb}
 use Rattle.runs.specs.Runs.{each}
 use Rattle.meaning.specs.declared.RigJoint.{RigJoint}
-use Rattle.meaning.specs.declared.RuleJoint.{RuleJoint}
 use Rattle.meaning.specs.declared.Tie.{Tie}
-use Rattle.meaning.specs.declared.RigFact.{RigFact}
-use Rattle.meaning.specs.declared.RigFact.the-variants as rig-fact
-use Rattle.meaning.specs.declared.RuleFact.{RuleFact}
-use Rattle.meaning.specs.declared.RuleFact.the-variants as rule-fact
 use Rattle.meaning.specs.Picture.{Fact}
 use Rattle.meaning.specs.Picture.Fact.{has-kind, same, leads}
 use Rattle.meaning.specs.Rule.{Rule, ruleJoint}
@@ -39,14 +34,3 @@ tieOf p at = record { rule = ruleJoint (byte p at); rig = rigJoint (byte p (at +
 -- the rule of a packet for asking
 abbrev pub ruleOf : List ℕ → Rule
 ruleOf p = record { joints = joints p; ties = each (λ i. tieOf p (tieAt i)) 0 (ties p); facts = packetFacts ruleJoint p }
-
--- the facts that the code's own enums stand for
-abbrev pub rigFact : RigFact → Fact RigJoint
-rigFact (rig-fact.Kind a s) = has-kind a s
-rigFact (rig-fact.Same a b) = same a b
-rigFact (rig-fact.Link a l c) = leads a l c
-
-abbrev pub ruleFact : RuleFact → Fact RuleJoint
-ruleFact (rule-fact.Kind a s) = has-kind a s
-ruleFact (rule-fact.Same a b) = same a b
-ruleFact (rule-fact.Link a l c) = leads a l c

@@ -1,4 +1,4 @@
 pub mod Packet
 pub mod Facts
-pub mod Reached
-pub mod Marking
+pub mod FactsPacket
+pub mod Decoding

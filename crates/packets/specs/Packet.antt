@@ -1,14 +1,15 @@
 -- 'Packets' and replies 5 to 9: the parts of a packet, and the reply to the first thing that is wrong with it.
 -- Assumes nothing.
-use mathlib.Core.Path.{_≡_}
-use mathlib.Core.Bool.{Bool, false, not, _&&_, cond}
-use mathlib.Core.List.{List}
-use Prim.Native.Nat.{ℕ, zero, suc, _+_, _-_, _*_, _/_, _≤_}
+use mathlib.Core.Bool.{Bool, false, _&&_, cond}
+use mathlib.Core.List.{List, [], _∷_}
+use Prim.Native.Nat.{ℕ, _+_, _-_, _*_, _/_}
 use lib.Dec.{eqb, leb, ltb}
 use lib.ListN.{length, getD}
-use Rattle.replies.specs.Replies.{orElse}
+use Rattle.replies.specs.declared.Cause.the-variants.{BadLength, BadVersion, BadHeader, BadCount, BadPart}
 use Rattle.replies.specs.declared.Reply.{Reply}
-use Rattle.replies.specs.declared.Reply.the-variants.{Done, BadLength, BadVersion, BadHeader, BadCount, BadPart}
+use Rattle.replies.specs.declared.Reply.the-variants.{Done}
+use Rattle.replies.specs.Replies.{unless, firstRefusal}
+use Rattle.runs.specs.Runs.{each}
 use Rattle.packets.specs.declared.Range.{Range}
 use Rattle.packets.specs.declared.Wanted.{Wanted}
 
@@ -52,12 +53,6 @@ lengthFits p = leb 6 (length p) && eqb (length p) (L p + 2)
 abbrev pub countFits : List ℕ → Bool
 countFits p = eqb (L p) (4 + 2 * ties p + 4 * factCount p) && leb (factCount p) 1088
 
--- the facts reach to the packet's last byte
-pub record Whole (p : List ℕ) : Type 0 where
-  pub header : 6 ≤ length p
-  pub ends : factAt p (factCount p) ≡ length p
-  pub few : factCount p ≤ 1088
-
 -- take: facts, no ties, the session's V
 abbrev pub factsWanted : ℕ → Wanted
 factsWanted v = record { purpose = 1; ties = record { from = 0; to = 0 }; joints = record { from = v; to = v } }
@@ -83,8 +78,7 @@ factFits n p at =
 
 -- the first of count parts, from the i-th on, that does not fit, by its first byte
 unfoldable pub firstUnfit : (ℕ → Bool) → (ℕ → ℕ) → ℕ → ℕ → Reply
-firstUnfit fits at i zero = Done 0
-firstUnfit fits at i (suc count) = cond (fits (at i)) (firstUnfit fits at (suc i) count) (BadPart (at i))
+firstUnfit fits at i count = firstRefusal (each (λ k. unless (fits (at k)) BadPart (at k)) i count) (Done 0)
 
 -- the facts, with kinds below n
 abbrev pub factsReply : ℕ → List ℕ → Reply
@@ -97,10 +91,13 @@ tiesReply v p = firstUnfit (tieFits v p) tieAt 0 (ties p)
 -- replies 5 to 9, the lowest number first; done where none fits
 unfoldable pub packetReply : Wanted → ℕ → ℕ → List ℕ → Reply
 packetReply w n v p =
-    cond (not (lengthFits p)) BadLength
-    (cond (not (eqb (version p) 1)) BadVersion
-    (cond (not (eqb (purpose p) (w .purpose))) (BadHeader 3)
-    (cond (not (within (w .ties) (ties p))) (BadHeader 4)
-    (cond (not (within (w .joints) (joints p))) (BadHeader 5)
-    (cond (not (countFits p)) BadCount
-    (orElse (tiesReply v p) (factsReply n p)))))))
+    firstRefusal
+    (unless (lengthFits p) BadLength 0
+    ∷ unless (eqb (version p) 1) BadVersion 2
+    ∷ unless (eqb (purpose p) (w .purpose)) BadHeader 3
+    ∷ unless (within (w .ties) (ties p)) BadHeader 4
+    ∷ unless (within (w .joints) (joints p)) BadHeader 5
+    ∷ unless (countFits p) BadCount 0
+    ∷ tiesReply v p
+    ∷ [])
+    (factsReply n p)

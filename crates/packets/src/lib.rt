@@ -1,13 +1,11 @@
 // Packets: the reply to any bytes, and what a well-formed packet says, part by part.
 ghost use mathlib.Core.Path.{_≡_};
-ghost use mathlib.Core.Bool.{_&&_, cond};
+ghost use mathlib.Core.Bool.{_&&_};
 ghost use Prim.Native.Nat.{_+_, _*_, _^_, _<_, _≤_};
-ghost use lib.Dec.{eqb};
-ghost use lib.ListN.{length, getD};
-ghost use Rattle.packets.specs.Packet.{byte, L, ties, factAt, factCount, lengthFits, countFits, Whole, factsWanted, ruleWanted, within, tieFits, factFits, factsReply, tiesReply, packetReply};
-ghost use Rattle.packets.specs.Facts.{factOf, tieOf, rigFact, ruleFact, ruleOf};
-ghost use Rattle.packets.specs.Reached.{SmallestNot, ReachReply, RulePacket};
-ghost use Rattle.packets.specs.Marking.{nthFact, Marked, WithMark, LinkMarked, Sound, TiesMarked, Grown, Follows, Followed, Closed, marked};
+ghost use lib.ListN.{length};
+ghost use Rattle.packets.specs.Packet.{byte, L, ties, factAt, factCount, lengthFits, countFits, factsWanted, ruleWanted, within, tieFits, factFits, factsReply, tiesReply, packetReply};
+ghost use Rattle.packets.specs.Decoding.{Whole, rigFact, ruleFact};
+ghost use Rattle.packets.specs.Facts.{factOf, tieOf};
 ghost use Rattle.meaning.specs.Form.{rigJoint};
 ghost use Rattle.meaning.specs.Rule.{ruleJoint};
 use meaning::RigFact;
@@ -15,6 +13,7 @@ use meaning::RigJoint;
 use meaning::RuleFact;
 use meaning::RuleJoint;
 use meaning::Tie;
+use replies::Cause;
 use replies::Reply;
 
 pub struct Range {
@@ -38,7 +37,8 @@ fn is_within(r: Range, x: usize) -> bool
     x <= r.to
 }
 
-fn byte_at(packet: &[u8], at: usize) -> usize
+// The byte at a place, as a number.
+pub fn byte_at(packet: &[u8], at: usize) -> usize
     requires { ⌜ at < length (now packet) ⌝ }
     ensures { λ r. ⌜ (r ≡ byte (now (packet .entry)) at) × (r < 256) ⌝ }
 {
@@ -150,7 +150,7 @@ fn first_bad_tie(packet: &[u8], v: usize) -> Reply
         if tie_fits(packet, at, v) {
             continue;
         }
-        return Reply::BadPart(at as u32);
+        return Reply::Refused(Cause::BadPart, at as u32);
     }
     Reply::Done(0)
 }
@@ -166,7 +166,7 @@ fn first_bad_fact(packet: &[u8], n: usize) -> Reply
         if fact_fits(packet, place, n) {
             continue;
         }
-        return Reply::BadPart(place as u32);
+        return Reply::Refused(Cause::BadPart, place as u32);
     }
     Reply::Done(0)
 }
@@ -176,28 +176,26 @@ fn packet_reply(packet: &[u8], w: Wanted, n: usize, v: usize) -> Reply
     ensures { λ r. ⌜ r ≡ packetReply w n v (now (packet .entry)) ⌝ }
 {
     if !length_fits(packet) {
-        return Reply::BadLength;
+        return Reply::Refused(Cause::BadLength, 0);
     }
     if byte_at(packet, 2) != 1 {
-        return Reply::BadVersion;
+        return Reply::Refused(Cause::BadVersion, 2);
     }
     if byte_at(packet, 3) != w.purpose {
-        return Reply::BadHeader(3);
+        return Reply::Refused(Cause::BadHeader, 3);
     }
     if !is_within(w.ties, byte_at(packet, 4)) {
-        return Reply::BadHeader(4);
+        return Reply::Refused(Cause::BadHeader, 4);
     }
     if !is_within(w.joints, byte_at(packet, 5)) {
-        return Reply::BadHeader(5);
+        return Reply::Refused(Cause::BadHeader, 5);
     }
     if !count_fits(packet) {
-        return Reply::BadCount;
+        return Reply::Refused(Cause::BadCount, 0);
     }
     let ties = first_bad_tie(packet, v);
-    if replies::is_refusal(ties) {
-        return ties;
-    }
-    first_bad_fact(packet, n)
+    let facts = first_bad_fact(packet, n);
+    replies::first_of(ties, facts)
 }
 
 // At take: a packet of facts on the session's v joints.
@@ -213,7 +211,7 @@ pub fn facts_reply(packet: &[u8], n: usize, v: usize) -> Reply
 }
 
 // At ask: a rule.
-pub fn rule_form_reply(packet: &[u8], n: usize, v: usize) -> Reply
+pub fn rule_reply(packet: &[u8], n: usize, v: usize) -> Reply
     ensures { λ r. ⌜ r ≡ packetReply ruleWanted n v (now (packet .entry)) ⌝ }
 {
     let wanted = Wanted {
@@ -263,131 +261,4 @@ pub fn tie(packet: &[u8], at: usize) -> Tie
         rule: RuleJoint(packet[at]),
         rig: RigJoint(packet[at + 1]),
     }
-}
-
-// Which of a rule's joints are known to be reached: 1 for a joint that is, else 0. Bytes, for an array of bools is copied bool by bool.
-pub struct Marks(pub [u8; 32]);
-
-fn is_marked(marks: Marks, j: usize) -> bool
-    requires { ⌜ j < 32 ⌝ }
-    ensures { λ b. ⌜ b ≡ eqb (getD (marks .0) j 0) 1 ⌝ }
-{
-    let on = marks.0;
-    on[j] == 1
-}
-
-// The joint j marked, too.
-fn mark(marks: Marks, j: usize) -> Marks
-    requires { ⌜ j < 32 ⌝ }
-    ensures { λ r. ⌜ WithMark marks j r ⌝ }
-{
-    let mut on = marks.0;
-    on[j] = 1;
-    Marks(on)
-}
-
-// A tied joint is reached.
-fn mark_ties(packet: &[u8]) -> Marks
-    requires { ⌜ RulePacket (now packet) ⌝ }
-    ensures { λ r. ⌜ Sound (now (packet .entry)) r × TiesMarked (now (packet .entry)) r ⌝ }
-{
-    let count = byte_at(packet, 4);
-    let mut marks = Marks([0u8; 32]);
-    for i in 0..count {
-        let j = byte_at(packet, 6 + 2 * i);
-        marks = mark(marks, j);
-    }
-    marks
-}
-
-// c is marked where a is.
-fn mark_link(marks: Marks, a: RuleJoint, c: RuleJoint) -> Marks
-    requires { ⌜ (a .0 < 32) × (c .0 < 32) ⌝ }
-    ensures { λ r. ⌜ LinkMarked marks a c r ⌝ }
-{
-    if is_marked(marks, a.0 as usize) {
-        return mark(marks, c.0 as usize);
-    }
-    marks
-}
-
-// c is reached when the i-th fact is "a.l is c" and a is reached. Nothing is reached from c back to a.
-fn mark_fact(packet: &[u8], i: usize, marks: Marks) -> Marks
-    requires { ⌜ RulePacket (now packet) ⌝ }
-    requires { ⌜ i < factCount (now packet) ⌝ }
-    ensures { λ r. ⌜ Grown (now (packet .entry)) marks r × Follows (nthFact (now (packet .entry)) i) marks r ⌝ }
-{
-    let fact = rule_fact(packet, fact_at(packet, i));
-    match fact {
-        RuleFact::Kind(_, _) => marks,
-        RuleFact::Same(_, _) => marks,
-        RuleFact::Link(a, _, c) => mark_link(marks, a, c),
-    }
-}
-
-// Every fact once, in turn.
-fn mark_facts(packet: &[u8], marks: Marks) -> Marks
-    requires { ⌜ RulePacket (now packet) ⌝ }
-    ensures { λ r. ⌜ Followed (now (packet .entry)) (factCount (now (packet .entry))) marks r ⌝ }
-{
-    let count = fact_count(packet);
-    let mut more = marks;
-    for i in 0..count {
-        more = mark_fact(packet, i, more);
-    }
-    more
-}
-
-fn one_if(b: bool) -> usize
-    ensures { λ r. ⌜ r ≡ cond b 1 0 ⌝ }
-{
-    if b { 1 } else { 0 }
-}
-
-fn count_marks(marks: Marks) -> usize
-    ensures { λ r. ⌜ r ≡ marked marks 32 ⌝ }
-{
-    let mut count = 0;
-    for j in 0..32 {
-        count += one_if(is_marked(marks, j));
-    }
-    count
-}
-
-// The reached joints: the facts are gone through until a pass marks nothing more. Each pass before that marks one more of 32.
-fn reached_joints(packet: &[u8]) -> Marks
-    requires { ⌜ RulePacket (now packet) ⌝ }
-    ensures { λ r. ⌜ Closed (now (packet .entry)) r ⌝ }
-{
-    let mut marks = mark_ties(packet);
-    loop {
-        let more = mark_facts(packet, marks);
-        if count_marks(more) == count_marks(marks) {
-            return marks;
-        }
-        marks = more;
-    }
-}
-
-// The smallest of the joints that is not marked.
-fn first_unmarked(marks: Marks, joints: usize) -> Reply
-    requires { ⌜ joints ≤ 32 ⌝ }
-    ensures { λ r. ⌜ SmallestNot (Marked marks) joints r ⌝ }
-{
-    for j in 0..joints {
-        if is_marked(marks, j) {
-            continue;
-        }
-        return Reply::NotReached(j as u32);
-    }
-    Reply::Done(0)
-}
-
-// Reply 10, for a rule that no reply from 5 to 9 refuses.
-pub fn reach_reply(packet: &[u8]) -> Reply
-    requires { ⌜ RulePacket (now packet) ⌝ }
-    ensures { λ r. ⌜ ReachReply (ruleOf (now (packet .entry))) r ⌝ }
-{
-    let marks = reached_joints(packet);
-    first_unmarked(marks, byte_at(packet, 5))
 }

@@ -6,57 +6,57 @@ use mathlib.Core.Logic.{_↔_}
 use mathlib.Core.List.{List, _++_}
 use Prim.Native.Nat.{ℕ}
 use Rattle.replies.specs.declared.Reply.{Reply}
-use Rattle.replies.specs.declared.Reply.the-variants.{Done, Clash}
+use Rattle.replies.specs.declared.Cause.the-variants.{Clash}
+use Rattle.replies.specs.declared.Reply.the-variants.{Done, Refused}
 use Rattle.replies.specs.Replies.{number}
 use Rattle.meaning.specs.declared.Verdict.{Verdict}
 use Rattle.meaning.specs.declared.Verdict.the-variants as verdict
-use Rattle.meaning.specs.Picture.{Every, Clash as NoPicture}
+use Rattle.meaning.specs.Rig.{NoPicture}
 use Rattle.meaning.specs.Rule.{Applies, RuledOut, verdictNumber}
 use Rattle.packets.specs.Facts.{rigFacts, ruleOf}
-use Rattle.packets.specs.Reached.{ReachReply}
-use Rattle.blocks.specs.Layout.{kindsOf}
-use Rattle.session.specs.Block.{meetOf, taken}
-use Rattle.session.specs.Take.{Take, takeRefusal}
-use Rattle.session.specs.Take.Take.{clashes}
-use Rattle.session.specs.Ask.{Ask, askRefusal}
-use Rattle.session.specs.Ask.Ask.{judged}
-use Rattle.session.proofs.OneTake.{take-one}
-use Rattle.session.proofs.Asking.{ask-one}
-use Rattle.promises.specs.Answers.{Parts}
-use Rattle.promises.proofs.Parts.{parts-exactly, number-clash}
+use Rattle.reach.specs.Reached.{ReachReply}
+use Rattle.blocks.specs.Layout.{rigOf, taken}
+use Rattle.taking.specs.Take.{Take, takeRefusal}
+use Rattle.taking.specs.Take.Take.{clashes}
+use Rattle.asking.specs.Ask.{Ask, askRefusal}
+use Rattle.asking.specs.Ask.Ask.{judged}
+use Rattle.taking.proofs.OneTake.{take-one}
+use Rattle.asking.proofs.OneAsk.{ask-one}
+use Rattle.promises.specs.HostReplies.{Reads}
+use Rattle.promises.proofs.Readings.{reads-exactly, number-clash}
 use Rattle.promises.proofs.Later.{JudgedAt, answered, clashed}
 
 -- a packet that no reply from 1 to 9 refuses
 module _ {b p after : List ℕ} {r : Reply} (well : takeRefusal b p ≡ Done 0) (take : Take b p r after) where
   -- "A well-formed packet is refused for a clash exactly when no rig satisfies it together with the facts already taken."
-  pub clash-exactly : (number r ≡ 11) ↔ NoPicture {n = kindsOf b} (meetOf b) Every (taken b ++ rigFacts p)
+  pub clash-exactly : (number r ≡ 11) ↔ NoPicture (rigOf b) (taken b ++ rigFacts p)
   clash-exactly = (
     λ e. clashed (subst (λ (x : Reply). Take b p x after) (number-clash r e) take) .no-picture,
     λ f. ap number (take-one take (clashes well f refl refl) .0),
   )
 
   -- and then place and third are 0
-  pub clash-parts : NoPicture {n = kindsOf b} (meetOf b) Every (taken b ++ rigFacts p) → Parts r 11 0 0
-  clash-parts f = parts-exactly r Clash .0 (take-one take (clashes well f refl refl) .0)
+  pub clash-parts : NoPicture (rigOf b) (taken b ++ rigFacts p) → Reads r 11 0 0
+  clash-parts f = reads-exactly r (Refused Clash 0) .0 (take-one take (clashes well f refl refl) .0)
 
 -- a rule that no reply from 1 to 10 refuses
 module _ {b p : List ℕ} {r : Reply} (well : askRefusal b p ≡ Done 0) (reached : ReachReply (ruleOf p) (Done 0)) (ask : Ask b p r) where
-  verdict-exactly : (x : Verdict) → Parts r 0 0 (verdictNumber x) ↔ JudgedAt b p x
+  pub verdict-exactly : (x : Verdict) → Reads r 0 0 (verdictNumber x) ↔ JudgedAt b p x
   verdict-exactly x = (
-    λ e. answered x (subst (λ (y : Reply). Ask b p y) (parts-exactly r (Done (verdictNumber x)) .1 e) ask) .judged,
-    λ j. parts-exactly r (Done (verdictNumber x)) .0 (ask-one ask (judged well reached x j refl)),
+    λ e. answered x (subst (λ (y : Reply). Ask b p y) (reads-exactly r (Done (verdictNumber x)) .1 e) ask) .judged,
+    λ j. reads-exactly r (Done (verdictNumber x)) .0 (ask-one ask (judged well reached x j refl)),
   )
 
   -- "A well-formed rule applies exactly when every rig satisfying the taken facts satisfies the rule"
-  pub applies-exactly : Parts r 0 0 1 ↔ Applies {n = kindsOf b} (meetOf b) Every (taken b) (ruleOf p)
+  pub applies-exactly : Reads r 0 0 1 ↔ Applies (rigOf b) (taken b) (ruleOf p)
   applies-exactly = verdict-exactly verdict.Applies
 
   -- "is ruled out exactly when none does"
-  pub ruled-out-exactly : Parts r 0 0 2 ↔ RuledOut {n = kindsOf b} (meetOf b) Every (taken b) (ruleOf p)
+  pub ruled-out-exactly : Reads r 0 0 2 ↔ RuledOut (rigOf b) (taken b) (ruleOf p)
   ruled-out-exactly = verdict-exactly verdict.RuledOut
 
   -- "and waits otherwise"
   pub waits-exactly :
-      Parts r 0 0 3
-      ↔ ((Applies {n = kindsOf b} (meetOf b) Every (taken b) (ruleOf p) → ⊥) × (RuledOut {n = kindsOf b} (meetOf b) Every (taken b) (ruleOf p) → ⊥))
+      Reads r 0 0 3
+      ↔ ((Applies (rigOf b) (taken b) (ruleOf p) → ⊥) × (RuledOut (rigOf b) (taken b) (ruleOf p) → ⊥))
   waits-exactly = verdict-exactly verdict.Waits

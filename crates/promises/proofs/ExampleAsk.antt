@@ -9,8 +9,8 @@ use native.Mathlib.Omega.{arith}
 use lib.Dec.{lit<}
 use lib.ListN.{getD, List·getD-eq-default}
 use Rattle.replies.specs.declared.Reply.the-variants.{Done}
-use Rattle.replies.specs.Replies.{refuses}
-use Rattle.kinds.specs.Kinds.{Under, meetAt}
+use Rattle.replies.specs.Replies.{refuses, firstRefusal}
+use Rattle.kinds.specs.Kinds.{Under}
 use Rattle.kinds.proofs.Order.{under-none}
 use Rattle.house.specs.Meets.{houseTable}
 use Rattle.house.proofs.Rule.{house-lawful}
@@ -19,7 +19,7 @@ use Rattle.meaning.specs.declared.RuleJoint.{RuleJoint}
 use Rattle.meaning.specs.declared.Tie.{Tie}
 use Rattle.meaning.specs.declared.Verdict.{Verdict}
 use Rattle.meaning.specs.declared.Verdict.the-variants as verdict
-use Rattle.meaning.specs.Picture.{Picture, Placing, Fact, All, Every}
+use Rattle.meaning.specs.Picture.{Picture, Placing, Fact, All}
 use Rattle.meaning.specs.Picture.Fact.{has-kind, leads}
 use Rattle.meaning.specs.Form.{rigJoint}
 use Rattle.meaning.specs.Rule.{Rule, ruleJoint, Found, Reached, Applies, RuledOut, Judged, verdictNumber}
@@ -27,15 +27,17 @@ use Rattle.meaning.specs.Rule.Reached.{by-tie, by-link}
 use Rattle.packets.specs.Packet.{packetReply, ruleWanted, factFits, firstUnfit}
 use Rattle.runs.specs.Runs.{each}
 use Rattle.packets.specs.Facts.{ruleOf, factOf}
-use Rattle.packets.specs.Reached.{ReachReply}
-use Rattle.packets.specs.Reached.SmallestNot.{all}
-use Rattle.session.specs.Ask.{askRefusal, Ask}
-use Rattle.session.specs.Ask.Ask.{judged}
-use Rattle.session.proofs.Blocks.{block-done}
-use Rattle.session.proofs.Asking.{ask-one, packet-decides}
-use Rattle.promises.specs.Examples.{Answers, rule6, rule7, rule8, rule9, rule10, rule11}
-use Rattle.promises.proofs.Parts.{parts-exactly}
-use Rattle.promises.proofs.ExampleBlock.{afterF, after-is, after-good, factsAfter}
+use Rattle.reach.specs.Reached.{ReachReply}
+use Rattle.reach.specs.Reached.SmallestNot.{all}
+use Rattle.asking.specs.Ask.{askRefusal, Ask}
+use Rattle.asking.specs.Ask.Ask.{judged}
+use Rattle.blocks.proofs.Shape.{block-done}
+use Rattle.blocks.proofs.Bytes.{at-rig as over-rig}
+use Rattle.asking.proofs.Asking.{packet-decides}
+use Rattle.asking.proofs.OneAsk.{ask-one}
+use Rattle.promises.specs.Examples.{Asks, rule6, rule7, rule8, rule9, rule10, rule11}
+use Rattle.promises.proofs.Readings.{reads-exactly}
+use Rattle.promises.proofs.ExampleBlock.{houseRig, afterF, after-rig, after-good, factsAfter}
 use Rattle.promises.proofs.ExampleTake.{houseMeet, of-after, rises, under-both}
 
 -- what the packets say: joint 0 is tied to rig joint 0, or to two rig joints
@@ -65,27 +67,27 @@ record Says (p : List ℕ) (r : Rule) : Type 0 where
   is : ruleOf p ≡ r
 
 says6 : Says rule6 (said6 2)
-unfolding packetReply rule6 factFits firstUnfit factOf each
+unfolding packetReply rule6 factFits firstUnfit firstRefusal factOf each
 says6 = record { fits = refl; is = refl }
 
 says7 : Says rule7 (said6 3)
-unfolding packetReply rule7 factFits firstUnfit factOf each
+unfolding packetReply rule7 factFits firstUnfit firstRefusal factOf each
 says7 = record { fits = refl; is = refl }
 
 says8 : Says rule8 said8
-unfolding packetReply rule8 factFits firstUnfit factOf each
+unfolding packetReply rule8 factFits firstUnfit firstRefusal factOf each
 says8 = record { fits = refl; is = refl }
 
 says9 : Says rule9 said9
-unfolding packetReply rule9 factFits firstUnfit factOf each
+unfolding packetReply rule9 factFits firstUnfit firstRefusal factOf each
 says9 = record { fits = refl; is = refl }
 
 says10 : Says rule10 (said10 2)
-unfolding packetReply rule10 factFits firstUnfit factOf each
+unfolding packetReply rule10 factFits firstUnfit firstRefusal factOf each
 says10 = record { fits = refl; is = refl }
 
 says11 : Says rule11 (said10 3)
-unfolding packetReply rule11 factFits firstUnfit factOf each
+unfolding packetReply rule11 factFits firstUnfit firstRefusal factOf each
 says11 = record { fits = refl; is = refl }
 
 -- joint 0 is tied, and joint 1 is where a link of joint 0 leads
@@ -110,27 +112,28 @@ reach6 s = two-joints (said6 s) refl zero-reached (by-link (List·Memᴰ·tail (
 -- the one answer, by a verdict on what the packet says
 answers :
     (p : List ℕ) {r : Rule} → Says p r → ReachReply r (Done 0) → (x : Verdict) →
-    Judged {n = 33} houseMeet Every factsAfter r x → Answers afterF p x
+    Judged houseRig factsAfter r x → Asks afterF p x
 answers p {r} s reach x j reply = (
-  λ a. parts-exactly reply (Done (verdictNumber x)) .0 (ask-one a one),
-  λ e. rw (parts-exactly reply (Done (verdictNumber x)) .1 e) one,
+  λ a. reads-exactly reply (Done (verdictNumber x)) .0 (ask-one a one),
+  λ e. rw (reads-exactly reply (Done (verdictNumber x)) .1 e) one,
 )
   where
     done : askRefusal afterF p ≡ Done 0
-    done = packet-decides afterF p (ap refuses (block-done after-good)) ∙ rw (after-is .kinds, after-is .joints) (s .fits)
+    done = packet-decides afterF p (ap refuses (block-done after-good))
+        ∙ over-rig (λ R. packetReply ruleWanted (R .kinds) (R .joints) p ≡ Done 0) (sym after-rig) (s .fits)
 
     one : Ask afterF p (Done (verdictNumber x))
     one =
         judged done (subst (λ (q : Rule). ReachReply q (Done 0)) (sym (s .is)) reach) x
-        (of-after (λ n t fs. Judged {n = n} (meetAt n t) Every fs (ruleOf p) x)
-        (subst (λ (q : Rule). Judged {n = 33} houseMeet Every factsAfter q x) (sym (s .is)) j))
+        (of-after (λ R fs. Judged R fs (ruleOf p) x)
+        (subst (λ (q : Rule). Judged houseRig factsAfter q x) (sym (s .is)) j))
         refl
 
 -- P6: each rule joint at the element of the rig joint of its number
 at-rig : (RigJoint → ℕ) → RuleJoint → ℕ
 at-rig σ u = σ (rigJoint (u .0))
 
-applies6 : Applies {n = 33} houseMeet Every factsAfter (said6 2)
+applies6 : Applies houseRig factsAfter (said6 2)
 unfolding at-rig houseTable
 applies6 P σ _ placed a =
     let arm-part = rises P (σ (rigJoint 0)) 11 9 (lit< tt) (lit< tt) refl (a .0) in
@@ -143,11 +146,11 @@ applies6 P σ _ placed a =
       holds = (arm-part, (link, (left, tt)));
     }
 
-pub p6 : Answers afterF rule6 verdict.Applies
+pub p6 : Asks afterF rule6 verdict.Applies
 p6 = answers rule6 says6 (reach6 2) verdict.Applies applies6
 
 -- P7: rule joint 1 would be at the element of rig joint 1, which is a left forearm
-out7 : RuledOut {n = 33} houseMeet Every factsAfter (said6 3)
+out7 : RuledOut houseRig factsAfter (said6 3)
 unfolding houseTable
 out7 P σ _ placed a found =
     let e = found .τ (ruleJoint 1) in
@@ -157,15 +160,15 @@ out7 P σ _ placed a found =
     (under-none house-lawful (P .kind e) (lit< tt) (P .in-range e)
     (under-both P e 23 3 0 (lit< tt) (lit< tt) refl forearm (found .holds .1 .1 .0)))
 
-pub p7 : Answers afterF rule7 verdict.RuledOut
+pub p7 : Asks afterF rule7 verdict.RuledOut
 p7 = answers rule7 says7 (reach6 3) verdict.RuledOut out7
 
 -- P10: 1 and 2 are one
-applies10 : Applies {n = 33} houseMeet Every factsAfter (said10 2)
+applies10 : Applies houseRig factsAfter (said10 2)
 applies10 P σ _ placed a =
     record { τ = λ u. σ (rigJoint 1); placed = λ u. placed (rigJoint 1); agree = (refl, (sym (a .1 .1 .1 .0), tt)); holds = tt }
 
-pub p10 : Answers afterF rule10 verdict.Applies
+pub p10 : Asks afterF rule10 verdict.Applies
 p10 = answers rule10 says10 (one-joint (said10 2) refl zero-reached) verdict.Applies applies10
 
 -- Small pictures for the rules that wait: elements 0, 1 and 2, of kinds s, left forearm and any. Link 1 leads to 1 and link 2 to `far`, from
@@ -233,10 +236,10 @@ module _ {s : ℕ} (a : Arm s) where
     holds = (a .under, (refl, (refl, (refl, tt))))
 
     -- a rule found there is not ruled out, and one not found there does not apply
-    found-here : {r : Rule} → Found houseMeet (small far) (place last) r → RuledOut {n = 33} houseMeet Every factsAfter r → ⊥
+    found-here : {r : Rule} → Found houseMeet (small far) (place last) r → RuledOut houseRig factsAfter r → ⊥
     found-here f o = o (small far) (place last) tt placed holds f
 
-    not-here : {r : Rule} → (Found houseMeet (small far) (place last) r → ⊥) → Applies {n = 33} houseMeet Every factsAfter r → ⊥
+    not-here : {r : Rule} → (Found houseMeet (small far) (place last) r → ⊥) → Applies houseRig factsAfter r → ⊥
     not-here n f = n (f (small far) (place last) tt placed holds)
 
 -- a left arm, and a left upper arm
@@ -258,7 +261,7 @@ unfolding kindAt
 two-some s e = omega arith
 
 -- P8: a left arm need not be a left upper arm, but may be
-waits8 : Judged {n = 33} houseMeet Every factsAfter said8 verdict.Waits
+waits8 : Judged houseRig factsAfter said8 verdict.Waits
 unfolding small place placeAt kindAt houseTable
 waits8 = (
   not-here left-arm nowhere 1 (one-some 11) (λ f. let q : _≡_ {A = ℕ} 21 11 = rw (f .agree .0) at (f .holds .0) in omega arith),
@@ -266,11 +269,11 @@ waits8 = (
       (record { τ = λ _. 0; placed = λ _. left-upper-arm .some; agree = (refl, tt); holds = (refl, tt) }),
 )
 
-pub p8 : Answers afterF rule8 verdict.Waits
+pub p8 : Asks afterF rule8 verdict.Waits
 p8 = answers rule8 says8 (one-joint said8 refl zero-reached) verdict.Waits waits8
 
 -- P9: an unwritten link may be absent, or lead to an element
-waits9 : Judged {n = 33} houseMeet Every factsAfter said9 verdict.Waits
+waits9 : Judged houseRig factsAfter said9 verdict.Waits
 unfolding small place placeAt kindAt linkAt at-rig
 waits9 = (
   not-here left-arm nowhere 1 (one-some 11) (λ f. f .placed (ruleJoint 1) (ap (kindAt 11) (sym (f .holds .0)))),
@@ -283,11 +286,11 @@ waits9 = (
       }),
 )
 
-pub p9 : Answers afterF rule9 verdict.Waits
+pub p9 : Asks afterF rule9 verdict.Waits
 p9 = answers rule9 says9 (two-joints said9 refl zero-reached (by-link (List·Memᴰ·head refl) zero-reached)) verdict.Waits waits9
 
 -- P11: 1 and 3 need not be one, but may be
-waits11 : Judged {n = 33} houseMeet Every factsAfter (said10 3) verdict.Waits
+waits11 : Judged houseRig factsAfter (said10 3) verdict.Waits
 unfolding small place placeAt kindAt
 waits11 = (
   not-here left-arm nowhere 2 (two-some 11)
@@ -296,5 +299,5 @@ waits11 = (
       (record { τ = λ _. 1; placed = λ _. one-some 11; agree = (refl, (refl, tt)); holds = tt }),
 )
 
-pub p11 : Answers afterF rule11 verdict.Waits
+pub p11 : Asks afterF rule11 verdict.Waits
 p11 = answers rule11 says11 (one-joint (said10 3) refl zero-reached) verdict.Waits waits11

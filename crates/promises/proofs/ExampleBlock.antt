@@ -1,7 +1,7 @@
 -- The block after the facts F of the examples: the fresh block with four joints' form in it. It is well formed, with its n, V and table,
 -- and its taken facts are the four of P5. The form is tested at each of its joints and links.
 -- Assumes nothing.
-use mathlib.Core.Path.{_≡_, refl, _∙_}
+use mathlib.Core.Path.{_≡_, refl, ap, _∙_}
 use mathlib.Core.Logic.{inl, inr, by-cases, Dec·and}
 use mathlib.Core.Bool.{Bool, _&&_, _||_, true, false, cond}
 use mathlib.Core.List.{List, [], _∷_, _++_}
@@ -11,21 +11,28 @@ use native.Mathlib.Decide.{ℕ-discrete, decLt}
 use native.Mathlib.Nat.{not-suc-le-zero, le-of-suc-le-suc}
 use lib.Dec.{T, eqb, leb, ltb, eqb→eq, leb→le, ltb→lt, lt→ltb, eqb-refl, lit≤}
 use lib.ListN.{length, getD, replicate}
-use Rattle.tables.specs.Check.{Sized}
+use Rattle.tables.specs.Sizes.{Sized}
 use Rattle.house.specs.Meets.{houseTable}
 use Rattle.house.proofs.Rule.{house-passes}
 use Rattle.house.proofs.Tests.{and-left, and-right, or-cases, allBelow, below}
 use Rattle.meaning.specs.declared.RigJoint.{RigJoint}
 use Rattle.meaning.specs.Picture.{Fact}
 use Rattle.meaning.specs.Picture.Fact.{has-kind, same, leads}
-use Rattle.meaning.specs.Form.{Form, listForm, unknown, Smallest, Well, linksFrom, factsAt, factsFrom, rigJoint, takenFacts, classes}
-use Rattle.meaning.proofs.Unique.{SameForm}
-use Rattle.blocks.specs.Layout.{blockForm, withForm}
-use Rattle.blocks.proofs.Bytes.{Opened, with-opened, packed-form, packed-well, form-facts, form-classes}
-use Rattle.blocks.proofs.Fresh.{fresh-opened, fresh-well, fresh-facts, fresh-classes}
-use Rattle.session.specs.Block.{taken, classCount}
-use Rattle.session.proofs.Blocks.{GoodBlock}
+use Rattle.meaning.specs.Form.{Form, listForm, unknown, linksFrom, factsAt, factsFrom, rigJoint, takenFacts, classes}
+use Rattle.meaning.specs.Solving.{Smallest, Well}
+use Rattle.meaning.specs.Rig.{Rig}
+use Rattle.meaning.proofs.SameForm.{SameForm, form-facts, form-classes}
+use Rattle.blocks.specs.Layout.{blockForm, rigOf, taken, classCount}
+use Rattle.blocks.specs.Storing.{withForm}
+use Rattle.blocks.proofs.Shape.{GoodBlock}
+use Rattle.blocks.proofs.Bytes.{with-rig, stored-form, stored-good}
+use Rattle.blocks.proofs.Fresh.{fresh-good, fresh-table, fresh-facts, fresh-classes}
+use Rattle.promises.specs.Sessions.{openedRig}
 use Rattle.promises.specs.Examples.{opened}
+
+-- house kinds, V = 4
+abbrev pub houseRig : Rig
+houseRig = openedRig 33 4 houseTable
 
 -- joints 1 and 2 are one; 0 is a left arm, 1 a left forearm, and of 3 nothing is known
 classesF : List ℕ
@@ -162,17 +169,17 @@ house-size = refl
 pub house-sized : Sized 33 houseTable
 house-sized = record { low = omega arith; high = omega arith; size = house-size }
 
-pub fresh-is : Opened 33 4 houseTable opened
-fresh-is = fresh-opened 33 4 houseTable house-sized (omega arith)
+pub opened-rig : rigOf opened ≡ houseRig
+opened-rig = ap (λ (t : List ℕ). openedRig 33 4 t) (fresh-table 33 4 houseTable house-sized (omega arith))
 
-pub fresh-good : GoodBlock opened
-fresh-good = record { size = fresh-is .size; well = fresh-well 33 4 houseTable house-sized (omega arith) (omega arith) house-passes }
+pub opened-good : GoodBlock opened
+opened-good = fresh-good 33 4 houseTable house-sized (omega arith) (omega arith) house-passes
 
-pub fresh-taken : taken opened ≡ []
-fresh-taken = fresh-facts 33 4 houseTable house-sized (omega arith)
+pub opened-taken : taken opened ≡ []
+opened-taken = fresh-facts 33 4 houseTable house-sized (omega arith)
 
-pub fresh-count : classCount opened ≡ 4
-fresh-count = fresh-classes 33 4 houseTable house-sized (omega arith)
+pub opened-count : classCount opened ≡ 4
+opened-count = fresh-classes 33 4 houseTable house-sized (omega arith)
 
 -- the block after F
 pub afterF : List ℕ
@@ -190,25 +197,18 @@ rows-long : 1024 ≤ length rowsF
 unfolding rowsF knownRows
 rows-long = lit≤ tt
 
--- what is known of it from here on: it is good, of this n, V and table, with these taken facts and three classes
-pub after-is : Opened 33 4 houseTable afterF
+-- what is known of it from here on: it is good, of the house rig, with these taken facts and three classes
+pub after-rig : rigOf afterF ≡ houseRig
 unfolding afterF
-after-is =
-    let o = with-opened opened classesF kindsF rowsF (fresh-is .size) classes-long kinds-long rows-long in
-    record { size = o .size; kinds = o .kinds; joints = o .joints; table = o .table ∙ fresh-is .table }
+after-rig = with-rig opened classesF kindsF rowsF (opened-good .size) classes-long kinds-long rows-long ∙ opened-rig
 
 pub after-good : GoodBlock afterF
 unfolding afterF formF
-after-good =
-    record {
-      size = after-is .size;
-      well =
-          packed-well (fresh-good .well) (fresh-is .size) classesF kindsF rowsF classes-long kinds-long rows-long well-F;
-    }
+after-good = stored-good opened-good classesF kindsF rowsF classes-long kinds-long rows-long well-F
 
 after-form : SameForm (blockForm afterF) formF
 unfolding afterF formF
-after-form = packed-form (fresh-good .well) (fresh-is .size) classesF kindsF rowsF classes-long kinds-long rows-long well-F
+after-form = stored-form opened-good classesF kindsF rowsF classes-long kinds-long rows-long well-F
 
 -- the facts of P5: 0 has kind 11; 0.1 is 1; 1 has kind 23; 2 is 1
 abbrev pub factsAfter : List (Fact RigJoint)
@@ -224,7 +224,7 @@ unfolding formF classesF classes
 form-count = refl
 
 pub after-taken : taken afterF ≡ factsAfter
-after-taken = rw (after-is .joints) (form-facts after-form 4 ∙ form-taken)
+after-taken = ap (λ (R : Rig). takenFacts (R .joints) (blockForm afterF)) after-rig ∙ form-facts after-form 4 ∙ form-taken
 
 pub after-count : classCount afterF ≡ 3
-after-count = rw (after-is .joints) (form-classes after-form 4 ∙ form-count)
+after-count = ap (λ (R : Rig). classes (blockForm afterF) (R .joints)) after-rig ∙ form-classes after-form 4 ∙ form-count

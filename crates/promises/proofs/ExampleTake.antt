@@ -6,31 +6,31 @@ use mathlib.Core.List.{List, [], _∷_, _++_}
 use Prim.Native.Nat.{ℕ, _<_}
 use lib.Dec.{lit<}
 use Rattle.replies.specs.declared.Reply.{Reply}
-use Rattle.replies.specs.declared.Reply.the-variants.{Done, Clash}
-use Rattle.replies.specs.Replies.{number, place, third, refuses}
-use Rattle.replies.proofs.Laws.{or-second}
+use Rattle.replies.specs.declared.Cause.the-variants.{Clash}
+use Rattle.replies.specs.declared.Reply.the-variants.{Done, Refused}
+use Rattle.replies.specs.Replies.{number, place, third, refuses, firstRefusal}
 use Rattle.kinds.specs.Kinds.{Under, meetAt}
 use Rattle.kinds.proofs.Order.{under-trans, under-none, meet-greatest}
 use Rattle.house.specs.Meets.{houseTable}
 use Rattle.house.proofs.Rule.{house-lawful}
 use Rattle.meaning.specs.declared.RigJoint.{RigJoint}
-use Rattle.meaning.specs.Picture.{Picture, Fact, All, SameMeaning, Every, Clash as NoPicture}
+use Rattle.meaning.specs.Picture.{Picture, Fact, All}
+use Rattle.meaning.specs.Rig.{Rig, NoPicture, SameMeaning}
 use Rattle.meaning.specs.Picture.Fact.{has-kind, leads}
 use Rattle.meaning.specs.Form.{rigJoint}
 use Rattle.packets.specs.Packet.{packetReply, factsWanted, factFits, firstUnfit}
 use Rattle.runs.specs.Runs.{each}
 use Rattle.packets.specs.Facts.{rigFacts, factOf}
-use Rattle.blocks.specs.Layout.{kindsOf, jointsOf, tableOf}
-use Rattle.blocks.proofs.Shape.{put-together}
-use Rattle.blocks.proofs.Bytes.{Opened}
-use Rattle.session.specs.Block.{taken, blockReply}
-use Rattle.session.specs.Take.{takeRefusal, Take}
-use Rattle.session.specs.Take.Take.{clashes, done}
-use Rattle.session.proofs.Blocks.{GoodBlock, block-done}
-use Rattle.session.proofs.OneTake.{take-one}
+use Rattle.blocks.specs.Layout.{rigOf, taken}
+use Rattle.blocks.proofs.Shape.{GoodBlock, block-done, put-together}
+use Rattle.blocks.proofs.Bytes.{at-rig}
+use Rattle.taking.specs.Take.{takeRefusal, Take}
+use Rattle.taking.specs.Take.Take.{clashes, done}
+use Rattle.taking.proofs.Taking.{packet-decides}
+use Rattle.taking.proofs.OneTake.{take-one}
 use Rattle.promises.specs.Examples.{opened, factsF, fact12, Takes}
-use Rattle.promises.proofs.Parts.{parts-exactly}
-use Rattle.promises.proofs.ExampleBlock.{fresh-is, fresh-good, fresh-taken, fresh-count, afterF, after-is, after-good, factsAfter, after-taken, after-count}
+use Rattle.promises.proofs.Readings.{reads-exactly}
+use Rattle.promises.proofs.ExampleBlock.{houseRig, opened-rig, opened-good, opened-taken, opened-count, afterF, after-rig, after-good, factsAfter, after-taken, after-count}
 
 abbrev pub houseMeet : ℕ → ℕ → ℕ
 houseMeet = meetAt 33 houseTable
@@ -39,25 +39,23 @@ houseMeet = meetAt 33 houseTable
 pub takes :
     {b p : List ℕ} (reply : Reply) {after : List ℕ} → Take b p reply after → Takes b p (number reply) (place reply) (third reply) after
 takes {b} {p} reply t r x = (
-  λ u. let e = take-one u t in (parts-exactly r reply .0 (e .0), e .1),
-  λ e. rw (parts-exactly r reply .1 (e .0), e .1) t,
+  λ u. let e = take-one u t in (reads-exactly r reply .0 (e .0), e .1),
+  λ e. rw (reads-exactly r reply .1 (e .0), e .1) t,
 )
 
 -- a packet that is not refused for 33 kinds and 4 joints is not refused by a block of so many
 not-refused :
-    {b : List ℕ} (p : List ℕ) → GoodBlock b → Opened 33 4 houseTable b → packetReply (factsWanted 4) 33 4 p ≡ Done 0 →
-    takeRefusal b p ≡ Done 0
-unfolding takeRefusal
-not-refused {b} p g o e =
-    or-second (blockReply b) (packetReply (factsWanted (jointsOf b)) (kindsOf b) (jointsOf b) p) (ap refuses (block-done g))
-    ∙ rw (o .kinds, o .joints) e
+    {b : List ℕ} (p : List ℕ) → GoodBlock b → rigOf b ≡ houseRig → packetReply (factsWanted 4) 33 4 p ≡ Done 0 → takeRefusal b p ≡ Done 0
+not-refused {b} p g rig e =
+    packet-decides b p (ap refuses (block-done g))
+    ∙ at-rig (λ R. packetReply (factsWanted (R .joints)) (R .kinds) (R .joints) p ≡ Done 0) (sym rig) e
 
 factsF-fit : packetReply (factsWanted 4) 33 4 factsF ≡ Done 0
-unfolding packetReply factsF factFits firstUnfit
+unfolding packetReply factsF factFits firstUnfit firstRefusal each
 factsF-fit = refl
 
 fact12-fits : packetReply (factsWanted 4) 33 4 fact12 ≡ Done 0
-unfolding packetReply fact12 factFits firstUnfit
+unfolding packetReply fact12 factFits firstUnfit firstRefusal each
 fact12-fits = refl
 
 -- what the packets say
@@ -113,30 +111,26 @@ module _ (P : Picture 33) (σ : RigJoint → ℕ) where
       let left-forearm = under-both P (σ (rigJoint 1)) 16 2 23 (lit< tt) (lit< tt) refl forearm left-1 in
       (left-arm, (link-1, (left-forearm, (one, tt))))
 
-same-F : SameMeaning {n = 33} houseMeet Every factsAfter saidF
+same-F : SameMeaning houseRig factsAfter saidF
 same-F P σ _ placed = (to-said P σ, from-said P σ)
 
 -- P4: F is taken with 1 join
 pub takes-F : Takes opened factsF 0 0 1 afterF
 takes-F =
     takes (Done 1)
-    (done (not-refused factsF fresh-good fresh-is factsF-fit)
+    (done (not-refused factsF opened-good opened-rig factsF-fit)
     (record {
-      size = after-is .size;
-      well = put-together afterF (after-good .well);
-      kinds = after-is .kinds;
-      joints = after-is .joints;
-      table = after-is .table ∙ sym (fresh-is .table);
-      means = rw (after-taken, fresh-taken, factsF-say, fresh-is .table) same-F;
+      stands = record { size = after-good .size; well = put-together afterF (after-good .well); rig = after-rig ∙ sym opened-rig };
+      means = at-rig (λ R. SameMeaning R (taken afterF) (taken opened ++ rigFacts factsF)) (sym opened-rig) (rw (after-taken, opened-taken, factsF-say) same-F);
     })
-    (rw (fresh-count, after-count)))
+    (rw (opened-count, after-count)))
 
--- what holds for 33 kinds, the house table and the four facts holds for those of the block after F
-pub of-after : (X : ℕ → List ℕ → List (Fact RigJoint) → Type 0) → X 33 houseTable factsAfter → X (kindsOf afterF) (tableOf afterF) (taken afterF)
-of-after X x = rw (after-taken, after-is .table, after-is .kinds) x
+-- what holds of the house rig and the four facts holds of the block after F
+pub of-after : (X : Rig → List (Fact RigJoint) → Type 0) → X houseRig factsAfter → X (rigOf afterF) (taken afterF)
+of-after X x = at-rig (λ R. X R (taken afterF)) (sym after-rig) (rw after-taken x)
 
 -- a left forearm is not right
-clash-12 : NoPicture {n = 33} houseMeet Every (factsAfter ++ (has-kind (rigJoint 2) 3 ∷ []))
+clash-12 : NoPicture houseRig (factsAfter ++ (has-kind (rigJoint 2) 3 ∷ []))
 unfolding houseTable
 clash-12 P σ _ placed a =
     let forearm = a .1 .1 .0 in
@@ -149,7 +143,7 @@ clash-12 P σ _ placed a =
 -- P12: then "2 has kind 3" clashes, and the block is unchanged
 pub takes-12 : Takes afterF fact12 11 0 0 afterF
 takes-12 =
-    takes Clash
-    (clashes (not-refused fact12 after-good after-is fact12-fits)
-    (of-after (λ n t fs. NoPicture {n = n} (meetAt n t) Every (fs ++ rigFacts fact12)) (rw fact12-says clash-12))
+    takes (Refused Clash 0)
+    (clashes (not-refused fact12 after-good after-rig fact12-fits)
+    (of-after (λ R fs. NoPicture R (fs ++ rigFacts fact12)) (rw fact12-says clash-12))
     refl refl)

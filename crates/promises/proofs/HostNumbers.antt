@@ -2,27 +2,29 @@
 -- the reply is told by them. Of each call: the number that it hands the host has the parts of the reply of the session's call.
 -- Assumes nothing.
 use mathlib.Core.Path.{_≡_, refl, sym, _∙_, ap}
-use mathlib.Core.Bool.{Bool, true, false, cond}
+use mathlib.Core.Bool.{Bool, true, false}
 use mathlib.Core.List.{List}
 use Prim.Native.Nat.{ℕ, _+_, _*_, _/_, _%_, _^_, _<_}
 use native.Mathlib.Omega.{arith}
 use lib.Arith.{digits-div, digits-mod}
 use lib.Dec.{eqb}
 use lib.ListN.{length}
+use Rattle.replies.specs.declared.Cause.the-variants.{BadSize}
 use Rattle.replies.specs.declared.Reply.{Reply}
-use Rattle.replies.specs.declared.Reply.the-variants.{Done, BadSize}
-use Rattle.replies.specs.Replies.{number, place, third, packed}
-use Rattle.session.specs.Open.{openReply}
-use Rattle.session.specs.Take.{Take}
-use Rattle.session.specs.Ask.{Ask}
-use Rattle.session.specs.Write.{writeReply}
-use Rattle.session.proofs.OneTake.{take-one}
-use Rattle.session.proofs.Asking.{ask-one}
-use Rattle.session.proofs.Thirds.{small, open-third, take-third, ask-third, write-third}
+use Rattle.replies.specs.Replies.{number, place, third, packed, unless}
+use Rattle.opening.specs.Open.{openReply}
+use Rattle.opening.proofs.Opening.{open-third}
+use Rattle.taking.specs.Take.{Take}
+use Rattle.taking.proofs.OneTake.{take-one}
+use Rattle.asking.specs.Ask.{Ask}
+use Rattle.asking.proofs.OneAsk.{ask-one}
+use Rattle.writing.specs.Write.{writeReply}
+use Rattle.writing.proofs.Writing.{write-third}
 use Rattle.vornulica.specs.House.{houseReply}
 use Rattle.vornulica.specs.Host.{TakeNumber, AskNumber}
-use Rattle.promises.specs.Answers.{Splits}
-use Rattle.promises.proofs.Parts.{number-few, parts-one}
+use Rattle.vornulica.proofs.Thirds.{small, take-third, ask-third}
+use Rattle.promises.specs.HostReplies.{Splits}
+use Rattle.promises.proofs.Readings.{number-few, reads-one}
 
 module _ (n t p : ℕ) (n-few : n < 256) (t-few : t < 2 ^ 24) where
   abbrev whole : ℕ
@@ -54,7 +56,7 @@ packed-splits r h =
 
 -- two replies with the same packed number are the same
 pub packed-one : (r s : Reply) → third r < 2 ^ 24 → third s < 2 ^ 24 → packed r ≡ packed s → r ≡ s
-packed-one r s h k e = parts-one (packed-splits r h) (rw e (packed-splits s k))
+packed-one r s h k e = reads-one (packed-splits r h) (rw e (packed-splits s k))
 
 -- a host's number that is the packed one of a reply
 handed : {x : ℕ} (r : Reply) → third r < 2 ^ 24 → x ≡ packed r → Splits x r
@@ -80,6 +82,17 @@ write-number b out e = handed (writeReply b out) (write-third b out) e
 pub house-number : {x : ℕ} (buffer : List ℕ) → x ≡ packed (houseReply buffer) → Splits x (houseReply buffer)
 house-number buffer e = handed (houseReply buffer) (small (houseReply buffer) (by-size (eqb (length buffer) 1089))) e
   where
-    by-size : (t : Bool) → third (cond t (Done 0) BadSize) ≡ 0
+    by-size : (t : Bool) → third (unless t BadSize 0) ≡ 0
     by-size true = refl
     by-size false = refl
+
+-- one result for each call, as the host gets it: opening, writing and the house table are equations in their contracts
+
+-- the same number, and the same block afterwards
+pub take-number-one :
+    {b p after after' : List ℕ} {x y : ℕ} → TakeNumber b p x after → TakeNumber b p y after' → (x ≡ y) × (after ≡ after')
+take-number-one s t = let e = take-one (s .takes) (t .takes) in (s .told ∙ ap packed (e .0) ∙ sym (t .told), e .1)
+
+-- the same number
+pub ask-number-one : {b p : List ℕ} {x y : ℕ} → AskNumber b p x → AskNumber b p y → x ≡ y
+ask-number-one s t = s .told ∙ ap packed (ask-one (s .asks) (t .asks)) ∙ sym (t .told)

@@ -3,69 +3,67 @@
 -- Assumes nothing.
 use mathlib.Core.Path.{_≡_, refl, sym, _∙_, ap, subst}
 use mathlib.Core.Logic.{_≢_}
-use mathlib.Core.Bool.{cond, true≢false}
+use mathlib.Core.Bool.{false, cond, true≢false}
 use mathlib.Core.List.{List, _++_}
 use Prim.Native.Nat.{ℕ}
 use lib.Dec.{eqb}
+use Rattle.replies.specs.declared.Cause.the-variants.{Clash}
 use Rattle.replies.specs.declared.Reply.{Reply}
-use Rattle.replies.specs.declared.Reply.the-variants.{Done, Clash}
-use Rattle.replies.specs.Replies.{third, refuses, orElse}
-use Rattle.replies.proofs.Laws.{or-second}
-use Rattle.kinds.specs.Kinds.{meetAt}
+use Rattle.replies.specs.declared.Reply.the-variants.{Done, Refused}
+use Rattle.replies.specs.Replies.{number, third, refuses}
 use Rattle.meaning.specs.declared.Verdict.{Verdict}
 use Rattle.meaning.specs.declared.Verdict.the-variants as verdict
-use Rattle.meaning.specs.Picture.{Every, Clash as NoPicture}
+use Rattle.meaning.specs.Rig.{Rig, NoPicture}
 use Rattle.meaning.specs.Rule.{Applies, RuledOut, Judged, verdictNumber}
-use Rattle.meaning.proofs.Later.{Follows, meaning-follows, follows-append, clash-later, applies-later, ruled-out-later}
+use Rattle.meaning.proofs.Later.{Follows, meaning-follows, follows-append, no-picture-later, applies-later, ruled-out-later}
 use Rattle.packets.specs.Packet.{packetReply, factsWanted, ruleWanted}
 use Rattle.packets.specs.Facts.{rigFacts, ruleOf}
-use Rattle.packets.specs.Reached.{ReachReply}
-use Rattle.blocks.specs.Layout.{kindsOf, jointsOf, tableOf}
-use Rattle.session.specs.Block.{blockReply, meetOf, taken}
-use Rattle.session.specs.Take.{After, Take, takeRefusal}
-use Rattle.session.specs.Take.Take.{refused as take-refused, clashes, done}
-use Rattle.session.specs.Ask.{Ask, askRefusal}
-use Rattle.session.specs.Ask.Ask.{refused as ask-refused, unreached, judged}
-use Rattle.session.proofs.Blocks.{GoodBlock, call-goes-on, block-done}
-use Rattle.session.proofs.OneTake.{take-one}
-use Rattle.session.proofs.Asking.{ask-one}
+use Rattle.reach.specs.Reached.{ReachReply}
+use Rattle.blocks.specs.Layout.{rigOf, taken}
+use Rattle.blocks.specs.WellFormed.{blockReply}
+use Rattle.blocks.proofs.Shape.{GoodBlock, block-done}
+use Rattle.blocks.proofs.Bytes.{at-rig}
+use Rattle.taking.specs.Take.{After, Take, takeRefusal}
+use Rattle.taking.specs.Take.Take.{refused as take-refused, clashes, done}
+use Rattle.taking.proofs.Taking.{taken-good, packet-decides as take-decides}
+use Rattle.taking.proofs.OneTake.{take-one, after-good}
+use Rattle.asking.specs.Ask.{Ask, askRefusal}
+use Rattle.asking.specs.Ask.Ask.{refused as ask-refused, unreached, judged}
+use Rattle.asking.proofs.Asking.{asked, packet-decides as ask-decides}
+use Rattle.asking.proofs.OneAsk.{ask-one}
 use Rattle.promises.specs.Sessions.{Sent, Calls, factsTaken}
 use Rattle.promises.proofs.Refusals.{refusal-no-clash}
-use Rattle.promises.proofs.Sessions.{moved, after-good, calls-after}
+use Rattle.promises.proofs.Sessions.{calls-after}
 
 -- from a good block to a later one
 module _ {b c : List ℕ} {sent : List Sent} (cs : Calls b sent c) (g : GoodBlock b) where
   later : After b (factsTaken sent) c
   later = calls-after g cs
 
-  follows : Follows {n = kindsOf b} (meetOf b) Every (taken c) (taken b)
-  follows = meaning-follows (meetOf b) Every (taken c) (taken b) (factsTaken sent) (later .means)
+  follows : Follows (rigOf b) (taken c) (taken b)
+  follows = meaning-follows (rigOf b) (taken c) (taken b) (factsTaken sent) (later .means)
 
-  -- what is said of n and the table, at the later block
-  at-later : (X : ℕ → List ℕ → Type 0) → X (kindsOf b) (tableOf b) → X (kindsOf c) (tableOf c)
-  at-later X = moved X (sym (later .kinds)) (sym (later .table))
+  -- what is said of the rig, at the later block
+  at-later : (X : Rig → Type 0) → X (rigOf b) → X (rigOf c)
+  at-later X = at-rig X (sym (later .stands .rig))
+
+  -- the reply to the later block does not refuse
+  later-passes : refuses (blockReply c) ≡ false
+  later-passes = ap refuses (block-done (after-good later))
 
   -- a packet that no reply before the clash or the verdict refuses is refused by none later
-  goes-on-later :
-      (next : ℕ → ℕ → Reply) → orElse (blockReply b) (next (kindsOf b) (jointsOf b)) ≡ Done 0 →
-      orElse (blockReply c) (next (kindsOf c) (jointsOf c)) ≡ Done 0
-  goes-on-later next d =
-      or-second (blockReply c) (next (kindsOf c) (jointsOf c)) (ap refuses (block-done (after-good later)))
-      ∙ ap (λ (n : ℕ). next n (jointsOf c)) (later .kinds)
-      ∙ ap (λ (v : ℕ). next (kindsOf b) v) (later .joints)
-      ∙ call-goes-on b (next (kindsOf b) (jointsOf b)) d .1
+  asks-on : (p : List ℕ) → askRefusal b p ≡ Done 0 → askRefusal c p ≡ Done 0
+  asks-on p d =
+      ask-decides c p later-passes ∙ at-later (λ R. packetReply ruleWanted (R .kinds) (R .joints) p ≡ Done 0) (asked b p d .rule)
 
-  ask-goes-on : (p : List ℕ) → askRefusal b p ≡ Done 0 → askRefusal c p ≡ Done 0
-  unfolding askRefusal
-  ask-goes-on p = goes-on-later (λ n v. packetReply ruleWanted n v p)
-
-  take-goes-on : (p : List ℕ) → takeRefusal b p ≡ Done 0 → takeRefusal c p ≡ Done 0
-  unfolding takeRefusal
-  take-goes-on p = goes-on-later (λ n v. packetReply (factsWanted v) n v p)
+  takes-on : (p : List ℕ) → takeRefusal b p ≡ Done 0 → takeRefusal c p ≡ Done 0
+  takes-on p d =
+      take-decides c p later-passes
+      ∙ at-later (λ R. packetReply (factsWanted (R .joints)) (R .kinds) (R .joints) p ≡ Done 0) (taken-good b p d .1)
 
 -- the verdict on a rule given what a block has taken
 abbrev pub JudgedAt : List ℕ → List ℕ → Verdict → Type 0
-JudgedAt b p = Judged {n = kindsOf b} (meetOf b) Every (taken b) (ruleOf p)
+JudgedAt b p = Judged (rigOf b) (taken b) (ruleOf p)
 
 -- what an asking that is done tells
 pub record Answered (b p : List ℕ) (x : Verdict) : Type 0 where
@@ -90,23 +88,13 @@ answered {b} {p} x (judged d r y j q) =
     let same = sym (verdict-of y) ∙ ap verdictOf (ap third (sym q)) ∙ verdict-of x in
     record { goes-on = d; reached = r; judged = subst (λ (z : Verdict). JudgedAt b p z) same j }
 
-asked-good : (b p : List ℕ) → askRefusal b p ≡ Done 0 → GoodBlock b
-unfolding askRefusal
-asked-good b p d = call-goes-on b _ d .0
-
-taken-good : (b p : List ℕ) → takeRefusal b p ≡ Done 0 → GoodBlock b
-unfolding takeRefusal
-taken-good b p d = call-goes-on b _ d .0
-
 -- a verdict but "waits" stays as more is taken
 judged-later :
     {b c : List ℕ} {sent : List Sent} (p : List ℕ) (x : Verdict) → x ≢ verdict.Waits → Calls b sent c → GoodBlock b → JudgedAt b p x → JudgedAt c p x
 judged-later {b} {c} p verdict.Applies d cs g j =
-    at-later cs g (λ k t. Applies {n = k} (meetAt k t) Every (taken c) (ruleOf p))
-    (applies-later (meetOf b) Every (taken c) (taken b) (follows cs g) (ruleOf p) j)
+    at-later cs g (λ R. Applies R (taken c) (ruleOf p)) (applies-later (rigOf b) (taken c) (taken b) (follows cs g) (ruleOf p) j)
 judged-later {b} {c} p verdict.RuledOut d cs g j =
-    at-later cs g (λ k t. RuledOut {n = k} (meetAt k t) Every (taken c) (ruleOf p))
-    (ruled-out-later (meetOf b) Every (taken c) (taken b) (follows cs g) (ruleOf p) j)
+    at-later cs g (λ R. RuledOut R (taken c) (ruleOf p)) (ruled-out-later (rigOf b) (taken c) (taken b) (follows cs g) (ruleOf p) j)
 judged-later p verdict.Waits d cs g j = absurd (d refl)
 
 pub verdict-stays :
@@ -114,31 +102,31 @@ pub verdict-stays :
     Ask c p r → r ≡ Done (verdictNumber x)
 verdict-stays {b} {p = p} x d before cs after =
     let a = answered x before in
-    let g = asked-good b p (a .goes-on) in
-    ask-one after (judged (ask-goes-on cs g p (a .goes-on)) (a .reached) x (judged-later p x d cs g (a .judged)) refl)
+    let g = asked b p (a .goes-on) .good in
+    ask-one after (judged (asks-on cs g p (a .goes-on)) (a .reached) x (judged-later p x d cs g (a .judged)) refl)
 
 -- what a taking that clashes tells
 pub record Clashed (b p : List ℕ) : Type 0 where
   pub goes-on : takeRefusal b p ≡ Done 0
-  pub no-picture : NoPicture {n = kindsOf b} (meetOf b) Every (taken b ++ rigFacts p)
+  pub no-picture : NoPicture (rigOf b) (taken b ++ rigFacts p)
 
-pub clashed : {b p after : List ℕ} → Take b p Clash after → Clashed b p
-clashed {b} {p} (take-refused e q _) = absurd (refusal-no-clash b p (sym q))
+pub clashed : {b p after : List ℕ} {place : ℕ} → Take b p (Refused Clash place) after → Clashed b p
+clashed {b} {p} (take-refused e q _) = absurd (refusal-no-clash b p (ap number (sym q)))
 clashed (clashes d f _ _) = record { goes-on = d; no-picture = f }
 clashed (done d a q) = absurd (true≢false (ap refuses q))
 
 clashed-later : {b c : List ℕ} {sent : List Sent} (p : List ℕ) → Calls b sent c → Clashed b p → Clashed c p
 clashed-later {b} {c} p cs d =
-    let g = taken-good b p (d .goes-on) in
-    let more = follows-append (meetOf b) Every (taken c) (taken b) (rigFacts p) (follows cs g) in
-    let clash = clash-later (meetOf b) Every (taken c ++ rigFacts p) (taken b ++ rigFacts p) more (d .no-picture) in
+    let g = taken-good b p (d .goes-on) .0 in
+    let more = follows-append (rigOf b) (taken c) (taken b) (rigFacts p) (follows cs g) in
+    let clash = no-picture-later (rigOf b) (taken c ++ rigFacts p) (taken b ++ rigFacts p) more (d .no-picture) in
     record {
-      goes-on = take-goes-on cs g p (d .goes-on);
-      no-picture = at-later cs g (λ k t. NoPicture {n = k} (meetAt k t) Every (taken c ++ rigFacts p)) clash;
+      goes-on = takes-on cs g p (d .goes-on);
+      no-picture = at-later cs g (λ R. NoPicture R (taken c ++ rigFacts p)) clash;
     }
 
 pub still-clashes :
-    {b c p after again : List ℕ} {sent : List Sent} {r : Reply} → Take b p Clash after → Calls b sent c → Take c p r again →
-    (r ≡ Clash) × (again ≡ c)
+    {b c p after again : List ℕ} {sent : List Sent} {place : ℕ} {r : Reply} → Take b p (Refused Clash place) after → Calls b sent c →
+    Take c p r again → (r ≡ Refused Clash 0) × (again ≡ c)
 still-clashes {p = p} before cs later =
     let d = clashed-later p cs (clashed before) in take-one later (clashes (d .goes-on) (d .no-picture) refl refl)

@@ -11,13 +11,15 @@ use native.Mathlib.Decide.{decLt}
 use native.Mathlib.Nat.{div-add-mod', mod-lt}
 use lib.ListN.{length}
 use lib.Seq.{ext-getD}
-use Rattle.kinds.specs.Kinds.{Lawful, meetAt}
+use Rattle.kinds.specs.Kinds.{meetAt}
+use Rattle.kinds.specs.Laws.{Lawful}
 use Rattle.meaning.specs.Picture.{Fact}
 use Rattle.meaning.specs.Picture.Fact.{has-kind, same, leads}
 use Rattle.meaning.specs.Form.{Form}
 use Rattle.meaning.specs.Solving.{Taken, InRange}
 use Rattle.meaning.specs.Asking.{Extends}
-use Rattle.meaning.proofs.Unique.{SameForm, taken-one}
+use Rattle.meaning.proofs.SameForm.{SameForm}
+use Rattle.meaning.proofs.Unique.{taken-one}
 use Rattle.meaning.proofs.Takes.{taken-not-refuted}
 use Rattle.solver.specs.declared.Solved.{Solved}
 use Rattle.solver.specs.Unpacked.{formOf, Ready, Took}
@@ -41,7 +43,7 @@ arrays-one s t c k l e = (
       (λ p _. let q : p / 16 * 16 + p % 16 ≡ p = div-add-mod' p 16 in rw q at (e .link (p / 16) (p % 16) (mod-lt p (omega arith)))),
 )
 
--- what `form::unpack` allows
+-- what `unpacking::unpack` allows
 pub unpack-one : {v k : ℕ} {S E F : Form} → Extends v k S E → Extends v k S F → SameForm E F
 unpack-one {v} {k} {S} {E} {F} x y =
     record {

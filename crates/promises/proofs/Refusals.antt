@@ -3,26 +3,29 @@
 -- Assumes nothing.
 use mathlib.Core.Path.{_≡_, refl, sym, _∙_, ap}
 use mathlib.Core.Logic.{_≢_}
-use mathlib.Core.Bool.{Bool, true, false, not, cond, _||_, true≢false, false≢true}
-use mathlib.Core.List.{List, [], _∷_, _++_}
+use mathlib.Core.Bool.{Bool, true, false, _||_, true≢false, false≢true}
+use mathlib.Core.List.{List, [], _∷_, _++_, map}
 use Prim.Native.Nat.{ℕ, zero, suc}
 use lib.Dec.{eqb}
 use lib.ListN.{length}
+use Rattle.replies.specs.declared.Cause.{Cause}
+use Rattle.replies.specs.declared.Cause.the-variants.{BadSize, BadBlock, BadLength, BadVersion, BadHeader, BadCount, BadPart}
 use Rattle.replies.specs.declared.Reply.{Reply}
-use Rattle.replies.specs.declared.Reply.the-variants.{Done, BadSize, BadBlock, BadLength, BadVersion, BadHeader, BadCount, BadPart, Clash}
-use Rattle.replies.specs.Replies.{refuses, orElse}
-use Rattle.tables.specs.Check.{Law, breach, keeps, firstBreach, tableReply, inOrder}
+use Rattle.replies.specs.declared.Reply.the-variants.{Done}
+use Rattle.replies.specs.Replies.{causeNumber, number, unless, firstRefusal}
+use Rattle.replies.proofs.Laws.{Each, first-holds}
+use Rattle.runs.specs.Runs.{each}
+use Rattle.tables.specs.Check.{Law, keeps, breachCause, breachPlace, lawReply, firstBreach, tableReply, inOrder}
 use Rattle.tables.specs.Check.Law.{entry, self, none, any, swap, group}
 use Rattle.packets.specs.declared.Wanted.{Wanted}
 use Rattle.packets.specs.Packet.{version, purpose, ties, joints, tieAt, factAt, factCount, lengthFits, countFits, within, tieFits, factFits}
-use Rattle.packets.specs.Packet.{firstUnfit, tiesReply, factsReply, packetReply, factsWanted, ruleWanted}
+use Rattle.packets.specs.Packet.{firstUnfit, factsReply, packetReply, factsWanted, ruleWanted}
 use Rattle.blocks.specs.Layout.{blockSize, kindsOf, jointsOf}
-use Rattle.blocks.specs.WellFormed.{wellFormed}
-use Rattle.session.specs.Block.{blockReply}
-use Rattle.session.specs.Open.{sizesFit, openReply}
-use Rattle.session.specs.Take.{takeRefusal}
-use Rattle.session.specs.Ask.{askRefusal}
-use Rattle.promises.specs.Answers.{listed, gives, openNumbers}
+use Rattle.blocks.specs.WellFormed.{wellFormed, blockReply}
+use Rattle.opening.specs.Open.{sizesFit, openReply}
+use Rattle.taking.specs.Take.{takeRefusal}
+use Rattle.asking.specs.Ask.{askRefusal}
+use Rattle.promises.specs.HostReplies.{listed, gives, openNumbers}
 
 or-more : (t : Bool) {a b : Bool} → (a ≡ true → b ≡ true) → t || a ≡ true → t || b ≡ true
 or-more true f e = refl
@@ -34,31 +37,36 @@ unfolding listed
 listed-more [] ys x e = absurd (false≢true e)
 listed-more (y ∷ xs) ys x e = or-more (eqb x y) (listed-more xs ys x) e
 
--- one of two replies, chosen by a test
+-- the first refusal of a list has a listed number where each reply has, and the last
 module _ (numbers : List ℕ) where
-  pub either : (t : Bool) (x y : Reply) → gives numbers x ≡ true → gives numbers y ≡ true → gives numbers (cond t x y) ≡ true
-  either true x y e f = e
-  either false x y e f = f
+  abbrev Gives : Reply → Type 0
+  Gives r = gives numbers r ≡ true
+
+  pub unless-gives : (t : Bool) (c : Cause) (p : ℕ) → listed numbers 0 ≡ true → listed numbers (causeNumber c) ≡ true → Gives (unless t c p)
+  unless-gives true c p has-0 has-c = has-0
+  unless-gives false c p has-0 has-c = has-c
+
+  pub first-gives : (rs : List Reply) (last : Reply) → Each Gives rs → Gives last → Gives (firstRefusal rs last)
+  first-gives = first-holds Gives
 
 -- the reply to a table
-table-gives : (n : ℕ) (table : List ℕ) (order : List Law) → gives openNumbers (firstBreach n table order) ≡ true
-unfolding firstBreach listed
-table-gives n table [] = refl
-table-gives n table (law ∷ more) =
-    either openNumbers (keeps n table law) (firstBreach n table more) (breach n law) (table-gives n table more) (breach-gives law)
-  where
-    breach-gives : (x : Law) → gives openNumbers (breach n x) ≡ true
-    breach-gives (entry p) = refl
-    breach-gives (self i) = refl
-    breach-gives (none i) = refl
-    breach-gives (any i) = refl
-    breach-gives (swap i j) = refl
-    breach-gives (group i j k) = refl
-
 pub open-gives : (n v : ℕ) (table b : List ℕ) → gives openNumbers (openReply n v table b) ≡ true
-unfolding openReply listed
+unfolding openReply firstBreach listed
 open-gives n v table b =
-    either openNumbers (sizesFit n v table b) (tableReply n table) BadSize (table-gives n table (inOrder n)) refl
+    first-gives openNumbers _ (tableReply n table) (unless-gives openNumbers (sizesFit n v table b) BadSize 0 refl refl, tt)
+    (first-gives openNumbers _ (Done 0) (laws-give (inOrder n)) refl)
+  where
+    law-gives : (x : Law) → listed openNumbers (causeNumber (breachCause x)) ≡ true
+    law-gives (entry p) = refl
+    law-gives (self i) = refl
+    law-gives (none i) = refl
+    law-gives (any i) = refl
+    law-gives (swap i j) = refl
+    law-gives (group i j k) = refl
+
+    laws-give : (order : List Law) → Each (λ r. gives openNumbers r ≡ true) (map (lawReply n table) order)
+    laws-give [] = tt
+    laws-give (x ∷ xs) = (unless-gives openNumbers (keeps n table x) (breachCause x) (breachPlace n x) refl (law-gives x), laws-give xs)
 
 -- the reply to a block, which is 0, 1 or 4
 pub block-gives :
@@ -66,36 +74,54 @@ pub block-gives :
     gives numbers (blockReply b) ≡ true
 unfolding blockReply
 block-gives numbers has-0 has-1 has-4 b =
-    either numbers (eqb (length b) blockSize) (cond (wellFormed b) (Done 0) BadBlock) BadSize
-    (either numbers (wellFormed b) (Done 0) BadBlock has-0 has-4) has-1
+    first-gives numbers _ (Done 0)
+    (unless-gives numbers (eqb (length b) blockSize) BadSize 0 has-0 has-1, (unless-gives numbers (wellFormed b) BadBlock 0 has-0 has-4, tt))
+    has-0
 
 -- the refusals that taking and asking share
 abbrev pub earlyNumbers : List ℕ
 earlyNumbers = 0 ∷ 1 ∷ 4 ∷ 5 ∷ 6 ∷ 7 ∷ 8 ∷ 9 ∷ []
 
-unfit-gives : (fits : ℕ → Bool) (at : ℕ → ℕ) (i count : ℕ) → gives earlyNumbers (firstUnfit fits at i count) ≡ true
-unfolding firstUnfit listed
-unfit-gives fits at i zero = refl
-unfit-gives fits at i (suc count) =
-    either earlyNumbers (fits (at i)) (firstUnfit fits at (suc i) count) (BadPart (at i)) (unfit-gives fits at (suc i) count) refl
+abbrev Early : Reply → Type 0
+Early r = gives earlyNumbers r ≡ true
+
+unfit-gives : (fits : ℕ → Bool) (at : ℕ → ℕ) (i count : ℕ) → Early (firstUnfit fits at i count)
+unfolding firstUnfit each listed
+unfit-gives fits at i count = first-gives earlyNumbers _ (Done 0) (each-gives i count) refl
+  where
+    each-gives : (i count : ℕ) → Each Early (each (λ k. unless (fits (at k)) BadPart (at k)) i count)
+    each-gives i zero = tt
+    each-gives i (suc count) = (unless-gives earlyNumbers (fits (at i)) BadPart (at i) refl refl, each-gives (suc i) count)
 
 module _ (w : Wanted) (n v : ℕ) (p : List ℕ) where
-  packet-gives : gives earlyNumbers (packetReply w n v p) ≡ true
+  packet-gives : Early (packetReply w n v p)
   unfolding packetReply listed
   packet-gives =
-      either earlyNumbers (not (lengthFits p)) BadLength _ refl
-      (either earlyNumbers (not (eqb (version p) 1)) BadVersion _ refl
-      (either earlyNumbers (not (eqb (purpose p) (w .purpose))) (BadHeader 3) _ refl
-      (either earlyNumbers (not (within (w .ties) (ties p))) (BadHeader 4) _ refl
-      (either earlyNumbers (not (within (w .joints) (joints p))) (BadHeader 5) _ refl
-      (either earlyNumbers (not (countFits p)) BadCount _ refl
-      (either earlyNumbers (refuses (tiesReply v p)) (tiesReply v p) (factsReply n p)
-      (unfit-gives (tieFits v p) tieAt 0 (ties p)) (unfit-gives (factFits n p) (factAt p) 0 (factCount p))))))))
+      let test = unless-gives earlyNumbers in
+      first-gives earlyNumbers _ (factsReply n p) (
+        test (lengthFits p) BadLength 0 refl refl,
+        (
+          test (eqb (version p) 1) BadVersion 2 refl refl,
+          (
+            test (eqb (purpose p) (w .purpose)) BadHeader 3 refl refl,
+            (
+              test (within (w .ties) (ties p)) BadHeader 4 refl refl,
+              (
+                test (within (w .joints) (joints p)) BadHeader 5 refl refl,
+                (
+                  test (countFits p) BadCount 0 refl refl,
+                  (unfit-gives (tieFits v p) tieAt 0 (ties p), tt),
+                ),
+              ),
+            ),
+          ),
+        ),
+      )
+      (unfit-gives (factFits n p) (factAt p) 0 (factCount p))
 
-  early-gives : (b : List ℕ) → gives earlyNumbers (orElse (blockReply b) (packetReply w n v p)) ≡ true
+  early-gives : (b : List ℕ) → Early (firstRefusal (blockReply b ∷ []) (packetReply w n v p))
   unfolding listed
-  early-gives b =
-      either earlyNumbers (refuses (blockReply b)) (blockReply b) (packetReply w n v p) (block-gives earlyNumbers refl refl refl b) packet-gives
+  early-gives b = first-gives earlyNumbers _ (packetReply w n v p) (block-gives earlyNumbers refl refl refl b, tt) packet-gives
 
 module _ (b p : List ℕ) where
   pub take-refusal-gives : gives earlyNumbers (takeRefusal b p) ≡ true
@@ -106,6 +132,6 @@ module _ (b p : List ℕ) where
   unfolding askRefusal
   ask-refusal-gives = early-gives ruleWanted (kindsOf b) (jointsOf b) p b
 
-  pub refusal-no-clash : takeRefusal b p ≢ Clash
+  pub refusal-no-clash : number (takeRefusal b p) ≢ 11
   unfolding listed
-  refusal-no-clash e = true≢false (sym take-refusal-gives ∙ ap (gives earlyNumbers) e)
+  refusal-no-clash e = true≢false (sym take-refusal-gives ∙ ap (listed earlyNumbers) e)

@@ -12,63 +12,40 @@ use native.Mathlib.Decide.{decLt}
 use native.Mathlib.Nat.{mul-le-mul}
 use Rattle.replies.specs.declared.Reply.the-variants.{Done}
 use Rattle.replies.specs.Replies.{refuses}
-use Rattle.replies.proofs.Laws.{or-second}
-use Rattle.kinds.specs.Kinds.{meetAt}
 use Rattle.meaning.specs.declared.RigJoint.{RigJoint}
-use Rattle.meaning.specs.Picture.{Picture, Fact, All, SameMeaning, Every}
-use Rattle.meaning.specs.Form.{takenFacts}
+use Rattle.meaning.specs.Picture.{Picture, Fact, All}
+use Rattle.meaning.specs.Rig.{Rig, meetOf, SameMeaning}
+use Rattle.meaning.specs.Rig.Profile.{every}
 use Rattle.meaning.proofs.Facts.{all-append, all-left, all-right}
 use Rattle.packets.specs.Packet.{packetReply, factsWanted}
 use Rattle.packets.specs.Facts.{rigFacts}
-use Rattle.blocks.specs.Layout.{kindsOf, jointsOf, tableOf, blockForm, freshBlock}
-use Rattle.blocks.proofs.Shape.{put-together}
-use Rattle.blocks.proofs.Bytes.{Opened, Means}
-use Rattle.blocks.proofs.Fresh.{fresh-opened, fresh-well, fresh-facts, fresh-classes}
-use Rattle.session.specs.Block.{blockReply, meetOf, taken, classCount}
-use Rattle.session.specs.Open.{openReply, openBlock}
-use Rattle.session.specs.Take.{After, Take, takeRefusal}
-use Rattle.session.specs.Take.Take.{refused, clashes, done}
-use Rattle.session.proofs.Blocks.{GoodBlock, block-done}
-use Rattle.session.proofs.Opening.{Fitting, opens, is-fresh}
-use Rattle.session.proofs.OneTake.{after-well, after-means}
-use Rattle.promises.specs.Sessions.{Sent, Calls, Session, factsTaken}
+use Rattle.blocks.specs.Layout.{rigOf, taken, freshBlock}
+use Rattle.blocks.proofs.Shape.{GoodBlock, block-done, stands-itself}
+use Rattle.blocks.proofs.Bytes.{at-rig}
+use Rattle.blocks.proofs.Fresh.{fresh-good, fresh-table, fresh-facts}
+use Rattle.opening.specs.Open.{openReply, openBlock}
+use Rattle.opening.proofs.Opening.{Fitting, opens, is-fresh}
+use Rattle.taking.specs.Take.{After, Take, takeRefusal}
+use Rattle.taking.specs.Take.Take.{refused, clashes, done}
+use Rattle.taking.proofs.Taking.{packet-decides}
+use Rattle.taking.proofs.OneTake.{after-good}
+use Rattle.promises.specs.Sessions.{Sent, Calls, Session, openedRig, factsTaken}
 use Rattle.promises.specs.Sessions.Calls.{none, taking, asking, writing}
-
--- what is said of a number of kinds and a table holds of equal ones
-pub moved : {n m : ℕ} {t u : List ℕ} (X : ℕ → List ℕ → Type 0) → n ≡ m → t ≡ u → X n t → X m u
-moved {m = m} {t} X p q x = subst (λ (u : List ℕ). X m u) q (subst (λ (k : ℕ). X k t) p x)
-
-pub meaning-moved :
-    {n m : ℕ} {t u : List ℕ} (fs gs : List (Fact RigJoint)) → n ≡ m → t ≡ u →
-    SameMeaning {n = n} (meetAt n t) Every fs gs → SameMeaning {n = m} (meetAt m u) Every fs gs
-meaning-moved fs gs = moved (λ k u. SameMeaning {n = k} (meetAt k u) Every fs gs)
 
 -- taking nothing leaves the block
 pub after-none : {b : List ℕ} → GoodBlock b → After b [] b
-after-none {b} g =
-    record {
-      size = g .size;
-      well = put-together b (g .well);
-      kinds = refl;
-      joints = refl;
-      table = refl;
-      means = λ P σ c placed. rw (append-nil (taken b)) (λ a. a, λ a. a);
-    }
+after-none {b} g = record { stands = stands-itself g; means = λ P σ c placed. rw (append-nil (taken b)) (λ a. a, λ a. a) }
 
 -- one taking and then another come to the taking of both
 pub after-then :
     {b x y : List ℕ} (fs gs : List (Fact RigJoint)) → After b fs x → After x gs y → After b (fs ++ gs) y
 after-then {b} {x} {y} fs gs p q =
     record {
-      size = q .size;
-      well = q .well;
-      kinds = q .kinds ∙ p .kinds;
-      joints = q .joints ∙ p .joints;
-      table = q .table ∙ p .table;
+      stands = record { size = q .stands .size; well = q .stands .well; rig = q .stands .rig ∙ p .stands .rig };
       means = λ P σ c placed.
           let first = p .means P σ c placed in
           let then = second P σ c placed in
-          let meet = meetOf b in
+          let meet = meetOf (rigOf b) in
           rw (← append-assoc (taken b) fs gs) (
             λ a.
                 all-append meet P σ (taken b ++ fs) gs
@@ -82,11 +59,8 @@ after-then {b} {x} {y} fs gs p q =
           );
     }
   where
-    second : SameMeaning {n = kindsOf b} (meetOf b) Every (taken y) (taken x ++ gs)
-    second = meaning-moved (taken y) (taken x ++ gs) (p .kinds) (p .table) (q .means)
-
-pub after-good : {b c : List ℕ} {fs : List (Fact RigJoint)} → After b fs c → GoodBlock c
-after-good a = record { size = a .size; well = after-well a }
+    second : SameMeaning (rigOf b) (taken y) (taken x ++ gs)
+    second = at-rig (λ R. SameMeaning R (taken y) (taken x ++ gs)) (p .stands .rig) (q .means)
 
 -- a reply that refuses, and one that does not
 module _ (s : Sent) (sent : List Sent) where
@@ -136,48 +110,36 @@ module _ (n v : ℕ) (table lent : List ℕ) (o : refuses (openReply n v table l
   opening : Fitting n v table lent
   opening = opens n v table lent o .0
 
-  pub fresh-good : GoodBlock (freshBlock n v table)
-  fresh-good =
-      record {
-        size = fresh-opened n v table (opening .sized) (opening .v-high) .size;
-        well = fresh-well n v table (opening .sized) (opening .v-high) (opening .v-low) (opens n v table lent o .1);
-      }
+  pub opened-good : GoodBlock (freshBlock n v table)
+  opened-good = fresh-good n v table (opening .sized) (opening .v-high) (opening .v-low) (opens n v table lent o .1)
 
-  pub fresh-table : tableOf (freshBlock n v table) ≡ table
-  fresh-table = fresh-opened n v table (opening .sized) (opening .v-high) .table
+  pub opened-rig : rigOf (freshBlock n v table) ≡ openedRig n v table
+  opened-rig =
+      ap (λ (t : List ℕ). record { kinds = n; table = t; joints = v; profile = every }) (fresh-table n v table (opening .sized) (opening .v-high))
 
-  pub fresh-taken : taken (freshBlock n v table) ≡ []
-  fresh-taken = fresh-facts n v table (opening .sized) (opening .v-high)
+  pub opened-taken : taken (freshBlock n v table) ≡ []
+  opened-taken = fresh-facts n v table (opening .sized) (opening .v-high)
 
-  pub fresh-count : classCount (freshBlock n v table) ≡ v
-  fresh-count = fresh-classes n v table (opening .sized) (opening .v-high)
-
-module _ {n v : ℕ} {table : List ℕ} {sent : List Sent} {b : List ℕ} (s : Session n v table sent b) where
-  from-fresh : Calls (freshBlock n v table) sent b
-  from-fresh = rw (opening-writes n v table (s .lent) (s .opens)) at (s .calls)
-
+-- the block of a session
+module _ {n v : ℕ} {table b : List ℕ} {sent : List Sent} (s : Session n v table sent b) where
   session-after : After (freshBlock n v table) (factsTaken sent) b
-  session-after = calls-after (fresh-good n v table (s .lent) (s .opens)) from-fresh
+  session-after =
+      calls-after (opened-good n v table (s .lent) (s .opens))
+      (subst (λ (x : List ℕ). Calls x sent b) (opening-writes n v table (s .lent) (s .opens)) (s .calls))
 
-  -- the block of a session is well formed, of the n, V and table it was opened with
+  -- it is good, of the rig that the session was opened with
   pub session-good : GoodBlock b
   session-good = after-good session-after
 
-  pub session-opened : Opened n v table b
-  session-opened =
-      let a = session-after in
-      record { size = a .size; kinds = a .kinds; joints = a .joints; table = a .table ∙ fresh-table n v table (s .lent) (s .opens) }
+  pub session-rig : rigOf b ≡ openedRig n v table
+  session-rig = session-after .stands .rig ∙ opened-rig n v table (s .lent) (s .opens)
 
   -- and it means the facts taken since opening
-  pub session-means : Means n v table b (factsTaken sent)
+  pub session-means : SameMeaning (openedRig n v table) (taken b) (factsTaken sent)
   session-means =
-      let t = tableOf (freshBlock n v table) in
-      let means : Means n v t b (taken (freshBlock n v table) ++ factsTaken sent) = after-means session-after in
-      meaning-moved (takenFacts v (blockForm b)) (factsTaken sent) refl (fresh-table n v table (s .lent) (s .opens))
-      (subst (λ (fs : List (Fact RigJoint)). Means n v t b (fs ++ factsTaken sent)) (fresh-taken n v table (s .lent) (s .opens)) means)
-
-  pub session-taken : SameMeaning {n = n} (meetAt n table) Every (taken b) (factsTaken sent)
-  session-taken = subst (λ (w : ℕ). Means n w table b (factsTaken sent)) (sym (session-opened .joints)) session-means
+      at-rig (λ R. SameMeaning R (taken b) (factsTaken sent)) (opened-rig n v table (s .lent) (s .opens))
+      (subst (λ (fs : List (Fact RigJoint)). SameMeaning (rigOf (freshBlock n v table)) (taken b) (fs ++ factsTaken sent))
+      (opened-taken n v table (s .lent) (s .opens)) (session-after .means))
 
 -- numbers with equal squares are equal
 root : (n m : ℕ) → n * n ≡ m * m → n ≡ m
@@ -197,13 +159,9 @@ same-kinds {n} {n'} {v} {v'} {table} s s' =
 pub sent-goes-on :
     {n v : ℕ} {table b : List ℕ} {sent : List Sent} (p : List ℕ) → Session n v table sent b → packetReply (factsWanted v) n v p ≡ Done 0 →
     takeRefusal b p ≡ Done 0
-unfolding takeRefusal
-sent-goes-on {n} {v} {b = b} p s well =
-    let o = session-opened s in
-    or-second (blockReply b) (packetReply (factsWanted (jointsOf b)) (kindsOf b) (jointsOf b) p) (ap refuses (block-done (session-good s)))
-    ∙ ap (λ (k : ℕ). packetReply (factsWanted (jointsOf b)) k (jointsOf b) p) (o .kinds)
-    ∙ ap (λ (w : ℕ). packetReply (factsWanted w) n w p) (o .joints)
-    ∙ well
+sent-goes-on {b = b} p s well =
+    packet-decides b p (ap refuses (block-done (session-good s)))
+    ∙ at-rig (λ R. packetReply (factsWanted (R .joints)) (R .kinds) (R .joints) p ≡ Done 0) (sym (session-rig s)) well
 
 chosen-hold :
     {n : ℕ} (meet : ℕ → ℕ → ℕ) (P : Picture n) (σ : RigJoint → ℕ) (t : Bool) (fs gs : List (Fact RigJoint)) →

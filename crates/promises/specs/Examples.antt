@@ -13,11 +13,11 @@ use Rattle.meaning.specs.declared.Verdict.{Verdict}
 use Rattle.meaning.specs.declared.Verdict.the-variants.{Applies, RuledOut, Waits}
 use Rattle.meaning.specs.Rule.{verdictNumber}
 use Rattle.blocks.specs.Layout.{blockSize, freshBlock}
-use Rattle.session.specs.Open.{openReply, openBlock}
-use Rattle.session.specs.Take.{Take}
-use Rattle.session.specs.Ask.{Ask}
-use Rattle.session.specs.Write.{solvedForm, writeReply, writtenOutput}
-use Rattle.promises.specs.Answers.{Parts}
+use Rattle.opening.specs.Open.{openReply, openBlock}
+use Rattle.taking.specs.Take.{Take}
+use Rattle.asking.specs.Ask.{Ask}
+use Rattle.writing.specs.Write.{solvedForm, writeReply, writtenOutput}
+use Rattle.promises.specs.HostReplies.{Reads}
 
 -- the facts F
 unfoldable pub factsF : List ℕ
@@ -121,11 +121,11 @@ fact12 =
 
 -- taking the packet gives this number, place and third number, and this block afterwards: the contract allows them, and no others
 abbrev pub Takes : List ℕ → List ℕ → ℕ → ℕ → ℕ → List ℕ → Type 0
-Takes b p number place third after = (r : Reply) (x : List ℕ) → Take b p r x ↔ (Parts r number place third × (x ≡ after))
+Takes b p number place third after = (r : Reply) (x : List ℕ) → Take b p r x ↔ (Reads r number place third × (x ≡ after))
 
 -- asking the packet gives this verdict: the contract allows it, and no other reply
-abbrev pub Answers : List ℕ → List ℕ → Verdict → Type 0
-Answers b p verdict = (r : Reply) → Ask b p r ↔ Parts r 0 0 (verdictNumber verdict)
+abbrev pub Asks : List ℕ → List ℕ → Verdict → Type 0
+Asks b p verdict = (r : Reply) → Ask b p r ↔ Reads r 0 0 (verdictNumber verdict)
 
 -- the block that opening writes
 abbrev pub opened : List ℕ
@@ -133,7 +133,7 @@ opened = freshBlock 33 4 houseTable
 
 pub record Examples : Type 0 where
   -- whatever the block's bytes were, opening it gives `opened`
-  pub opens : (b : List ℕ) → length b ≡ blockSize → Parts (openReply 33 4 houseTable b) 0 0 0 × (openBlock 33 4 houseTable b ≡ opened)
+  pub opens : (b : List ℕ) → length b ≡ blockSize → Reads (openReply 33 4 houseTable b) 0 0 0 × (openBlock 33 4 houseTable b ≡ opened)
   pub p1 : meetAt 33 houseTable 2 9 ≡ 11
   pub p2 : meetAt 33 houseTable 3 17 ≡ 26
   pub p3 : meetAt 33 houseTable 11 18 ≡ 0
@@ -144,13 +144,13 @@ pub record Examples : Type 0 where
   -- its solved form, and the call that writes its 22 bytes to any output which has room for them
   pub p5 : solvedForm after ≡ solvedF
   pub p5-written :
-      (out : List ℕ) → 22 ≤ length out → Parts (writeReply after out) 0 0 22 × (writtenOutput after out ≡ solvedF ++ drop 22 out)
+      (out : List ℕ) → 22 ≤ length out → Reads (writeReply after out) 0 0 22 × (writtenOutput after out ≡ solvedF ++ drop 22 out)
   -- the verdicts on the rules, after F
-  pub p6 : Answers after rule6 Applies
-  pub p7 : Answers after rule7 RuledOut
-  pub p8 : Answers after rule8 Waits
-  pub p9 : Answers after rule9 Waits
-  pub p10 : Answers after rule10 Applies
-  pub p11 : Answers after rule11 Waits
+  pub p6 : Asks after rule6 Applies
+  pub p7 : Asks after rule7 RuledOut
+  pub p8 : Asks after rule8 Waits
+  pub p9 : Asks after rule9 Waits
+  pub p10 : Asks after rule10 Applies
+  pub p11 : Asks after rule11 Waits
   -- F, then "2 has kind 3": 11, block unchanged
   pub p12 : Takes after fact12 11 0 0 after

@@ -9,10 +9,12 @@ use Rattle.replies.specs.declared.Reply.{Reply}
 use Rattle.replies.specs.Replies.{refuses}
 use Rattle.meaning.specs.declared.RigJoint.{RigJoint}
 use Rattle.meaning.specs.Picture.{Fact}
+use Rattle.meaning.specs.Rig.{Rig}
+use Rattle.meaning.specs.Rig.Profile.{every}
 use Rattle.packets.specs.Facts.{rigFacts}
-use Rattle.session.specs.Open.{openReply, openBlock}
-use Rattle.session.specs.Take.{Take}
-use Rattle.session.specs.Ask.{Ask}
+use Rattle.opening.specs.Open.{openReply, openBlock}
+use Rattle.taking.specs.Take.{Take}
+use Rattle.asking.specs.Ask.{Ask}
 
 -- a packet sent to taking, and the reply to it
 pub record Sent : Type 0 where
@@ -34,6 +36,10 @@ pub record Session (n v : ℕ) (table : List ℕ) (sent : List Sent) (b : List �
   pub lent : List ℕ
   pub opens : refuses (openReply n v table lent) ≡ false
   pub calls : Calls (openBlock n v table lent) sent b
+
+-- the rig that it was opened with
+abbrev pub openedRig : ℕ → ℕ → List ℕ → Rig
+openedRig n v table = record { kinds = n; table = table; joints = v; profile = every }
 
 -- the facts taken: those of the packets whose reply is no refusal
 unfoldable pub factsTaken : List Sent → List (Fact RigJoint)

@@ -1,64 +1,53 @@
--- The table 'Replies': number, place and third number of each reply, and the one number that the host gets.
+-- The table 'Replies': number, place and third number of each reply, the one number that the host gets, and which refusal is told where
+-- several fit.
 -- Assumes nothing.
-use mathlib.Core.Bool.{Bool, not, cond}
+use mathlib.Core.Bool.{Bool, true, false, cond}
+use mathlib.Core.List.{List, [], _∷_}
 use Prim.Native.Nat.{ℕ, _+_, _*_, _^_}
-use lib.Dec.{eqb}
+use Rattle.replies.specs.declared.Cause.{Cause}
+use Rattle.replies.specs.declared.Cause.the-variants.{BadSize, NoKind, LawBroken, BadBlock, BadLength, BadVersion, BadHeader, BadCount, BadPart, NotReached, Clash, ShortOutput}
 use Rattle.replies.specs.declared.Reply.{Reply}
-use Rattle.replies.specs.declared.Reply.the-variants.{Done, BadSize, NoKind, LawBroken, BadBlock, BadLength, BadVersion, BadHeader, BadCount, BadPart, NotReached, Clash, ShortOutput}
+use Rattle.replies.specs.declared.Reply.the-variants.{Done, Refused}
+
+abbrev pub causeNumber : Cause → ℕ
+causeNumber BadSize = 1
+causeNumber NoKind = 2
+causeNumber LawBroken = 3
+causeNumber BadBlock = 4
+causeNumber BadLength = 5
+causeNumber BadVersion = 6
+causeNumber BadHeader = 7
+causeNumber BadCount = 8
+causeNumber BadPart = 9
+causeNumber NotReached = 10
+causeNumber Clash = 11
+causeNumber ShortOutput = 12
 
 abbrev pub number : Reply → ℕ
 number (Done t) = 0
-number BadSize = 1
-number (NoKind p) = 2
-number (LawBroken p) = 3
-number BadBlock = 4
-number BadLength = 5
-number BadVersion = 6
-number (BadHeader p) = 7
-number BadCount = 8
-number (BadPart p) = 9
-number (NotReached j) = 10
-number Clash = 11
-number ShortOutput = 12
+number (Refused c p) = causeNumber c
 
--- an unnamed place is 0
 abbrev pub place : Reply → ℕ
 place (Done t) = 0
-place BadSize = 0
-place (NoKind p) = p
-place (LawBroken p) = p
-place BadBlock = 0
-place BadLength = 0
-place BadVersion = 2
-place (BadHeader p) = p
-place BadCount = 0
-place (BadPart p) = p
-place (NotReached j) = j
-place Clash = 0
-place ShortOutput = 0
+place (Refused c p) = p
 
 -- a refusal has third 0
 abbrev pub third : Reply → ℕ
 third (Done t) = t
-third BadSize = 0
-third (NoKind p) = 0
-third (LawBroken p) = 0
-third BadBlock = 0
-third BadLength = 0
-third BadVersion = 0
-third (BadHeader p) = 0
-third BadCount = 0
-third (BadPart p) = 0
-third (NotReached j) = 0
-third Clash = 0
-third ShortOutput = 0
+third (Refused c p) = 0
 
 abbrev pub packed : Reply → ℕ
 packed r = number r + 256 * third r + 2 ^ 32 * place r
 
 abbrev pub refuses : Reply → Bool
-refuses r = not (eqb (number r) 0)
+refuses (Done t) = false
+refuses (Refused c p) = true
 
--- the first of two where it refuses, else the second: the lowest number wins where the lower comes first
-abbrev pub orElse : Reply → Reply → Reply
-orElse a b = cond (refuses a) a b
+-- refused for this cause at this place, unless the test passes
+abbrev pub unless : Bool → Cause → ℕ → Reply
+unless passes cause at = cond passes (Done 0) (Refused cause at)
+
+-- the first refusal of the list, in this order; where none of it refuses, the reply beside it
+unfoldable pub firstRefusal : List Reply → Reply → Reply
+firstRefusal [] last = last
+firstRefusal (r ∷ rs) last = cond (refuses r) r (firstRefusal rs last)

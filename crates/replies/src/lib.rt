@@ -1,17 +1,17 @@
-// The replies of every call, one variant for each number of the table 'Replies'.
+// The replies of every call: done, or refused for a cause that has its number in the table 'Replies'.
 ghost use mathlib.Core.Path.{_≡_};
+ghost use mathlib.Core.List.{[], _∷_};
 ghost use Prim.Native.Nat.{_^_, _<_};
-ghost use Rattle.replies.specs.Replies.{number, place, third, packed, refuses};
+ghost use Rattle.replies.specs.Replies.{causeNumber, number, place, third, packed, refuses, firstRefusal};
 
-pub enum Reply {
-    // 0: done, with the third number.
-    Done(u32),
+// Why a call is refused.
+pub enum Cause {
     // 1: n or V out of range, or a lent slice that has not its size.
     BadSize,
     // 2: a table entry that is no kind, at its offset.
-    NoKind(u32),
+    NoKind,
     // 3: a table law broken, at the offset of the entry read.
-    LawBroken(u32),
+    LawBroken,
     // 4: the block is not well formed.
     BadBlock,
     // 5: the packet has under six bytes, or not as many as it states.
@@ -19,17 +19,44 @@ pub enum Reply {
     // 6: the packet's version is not 1.
     BadVersion,
     // 7: purpose, ties or joint count, at the first wrong byte.
-    BadHeader(u32),
+    BadHeader,
     // 8: no number of facts fits the length.
     BadCount,
     // 9: a tie or a fact with an unknown tag, a number out of range or an unused byte not 0, at its first byte.
-    BadPart(u32),
-    // 10: the smallest rule joint that is not reached.
-    NotReached(u32),
+    BadPart,
+    // 10: a rule joint that is not reached; its place is the smallest.
+    NotReached,
     // 11: no picture satisfies the taken facts and the packet's together.
     Clash,
-    // 12: the output is shorter than the solved form.
+    // 12: the output is shorter than what is to be written.
     ShortOutput,
+}
+
+pub enum Reply {
+    // Done, with the third number.
+    Done(u32),
+    // Refused, with the place.
+    Refused(Cause, u32),
+}
+
+// The one table from a cause to its number.
+pub fn cause_number(c: Cause) -> u8
+    ensures { λ x. ⌜ x ≡ causeNumber c ⌝ }
+{
+    match c {
+        Cause::BadSize => 1,
+        Cause::NoKind => 2,
+        Cause::LawBroken => 3,
+        Cause::BadBlock => 4,
+        Cause::BadLength => 5,
+        Cause::BadVersion => 6,
+        Cause::BadHeader => 7,
+        Cause::BadCount => 8,
+        Cause::BadPart => 9,
+        Cause::NotReached => 10,
+        Cause::Clash => 11,
+        Cause::ShortOutput => 12,
+    }
 }
 
 pub fn number_of(r: Reply) -> u8
@@ -37,26 +64,8 @@ pub fn number_of(r: Reply) -> u8
 {
     match r {
         Reply::Done(_) => 0,
-        Reply::BadSize => 1,
-        Reply::NoKind(_) => 2,
-        Reply::LawBroken(_) => 3,
-        Reply::BadBlock => 4,
-        Reply::BadLength => 5,
-        Reply::BadVersion => 6,
-        Reply::BadHeader(_) => 7,
-        Reply::BadCount => 8,
-        Reply::BadPart(_) => 9,
-        Reply::NotReached(_) => 10,
-        Reply::Clash => 11,
-        Reply::ShortOutput => 12,
+        Reply::Refused(cause, _) => cause_number(cause),
     }
-}
-
-// Whether the reply is a refusal, that is any but done.
-pub fn is_refusal(r: Reply) -> bool
-    ensures { λ b. ⌜ b ≡ refuses r ⌝ }
-{
-    number_of(r) != 0
 }
 
 pub fn place_of(r: Reply) -> u32
@@ -64,18 +73,7 @@ pub fn place_of(r: Reply) -> u32
 {
     match r {
         Reply::Done(_) => 0,
-        Reply::BadSize => 0,
-        Reply::NoKind(p) => p,
-        Reply::LawBroken(p) => p,
-        Reply::BadBlock => 0,
-        Reply::BadLength => 0,
-        Reply::BadVersion => 2,
-        Reply::BadHeader(p) => p,
-        Reply::BadCount => 0,
-        Reply::BadPart(p) => p,
-        Reply::NotReached(p) => p,
-        Reply::Clash => 0,
-        Reply::ShortOutput => 0,
+        Reply::Refused(_, place) => place,
     }
 }
 
@@ -83,20 +81,28 @@ pub fn third_of(r: Reply) -> u32
     ensures { λ x. ⌜ x ≡ third r ⌝ }
 {
     match r {
-        Reply::Done(t) => t,
-        Reply::BadSize => 0,
-        Reply::NoKind(_) => 0,
-        Reply::LawBroken(_) => 0,
-        Reply::BadBlock => 0,
-        Reply::BadLength => 0,
-        Reply::BadVersion => 0,
-        Reply::BadHeader(_) => 0,
-        Reply::BadCount => 0,
-        Reply::BadPart(_) => 0,
-        Reply::NotReached(_) => 0,
-        Reply::Clash => 0,
-        Reply::ShortOutput => 0,
+        Reply::Done(third) => third,
+        Reply::Refused(_, _) => 0,
     }
+}
+
+pub fn is_refusal(r: Reply) -> bool
+    ensures { λ b. ⌜ b ≡ refuses r ⌝ }
+{
+    match r {
+        Reply::Done(_) => false,
+        Reply::Refused(_, _) => true,
+    }
+}
+
+// The first of two that refuses; the second where neither does.
+pub fn first_of(a: Reply, b: Reply) -> Reply
+    ensures { λ r. ⌜ r ≡ firstRefusal (a ∷ []) b ⌝ }
+{
+    if is_refusal(a) {
+        return a;
+    }
+    b
 }
 
 // The one number that the host gets. A third number of 24 bits leaves the place its own 32.

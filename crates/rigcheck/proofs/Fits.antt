@@ -7,7 +7,7 @@ use Prim.Native.Nat.{ℕ, _≤_}
 use native.Mathlib.Omega.{arith}
 use lib.ListN.{length}
 use Rattle.replies.specs.Replies.{number, place, third}
-use Rattle.session.specs.Open.{openReply}
+use Rattle.opening.specs.Open.{openReply}
 use Rattle.house.specs.Meets.{houseTable}
 use Rattle.lines.specs.declared.Line.{Line}
 use Rattle.lines.specs.Text.{line, longestWord, room, holding}

@@ -1,19 +1,15 @@
--- How a run goes on from the bytes of L, case by case; a packet that is read on is not too long; and the turn on the bytes read, whose step
--- was judged by the first two.
+-- How a run goes on from the bytes of L, case by case; and a packet that is read on is not too long.
 -- Assumes nothing.
-use mathlib.Core.Path.{_≡_, refl, sym, _∙_, ap}
+use mathlib.Core.Path.{_≡_, refl, ap}
 use mathlib.Core.Bool.{Bool, true, false, cond}
 use mathlib.Core.List.{List}
 use Prim.Native.Nat.{ℕ, _+_, _*_, _≤_, _<_}
 use native.Mathlib.Omega.{arith}
 use lib.Dec.{eqb, ltb}
-use lib.ListN.{getD, take}
-use lib.Seq.{getD-take}
+use lib.ListN.{getD}
 use borrow.Author.Tests.{eq-eqb, ne-eqb, lt-ltb, le-ltb, ltb-false}
-use Rattle.lines.specs.declared.Line.{Line}
-use Rattle.rigcheck.specs.declared.Step.{Step}
 use Rattle.rigcheck.specs.declared.Step.the-variants.{End, Cut, Long, Packet}
-use Rattle.rigcheck.specs.Lines.{stepOf, longest, goesOn, Turn, Turned}
+use Rattle.rigcheck.specs.Lines.{stepOf, longest}
 
 module _ (got : ℕ) (p : List ℕ) where
   abbrev L : ℕ
@@ -44,24 +40,3 @@ module _ (got : ℕ) (p : List ℕ) where
   pub packet-short : {size : ℕ} → stepOf got p ≡ Packet size → size ≤ longest
   unfolding stepOf
   packet-short {size} e = short (eqb got 0) (ltb got 2) (ltb longest L) L size (λ q. ltb-false longest L q) e
-
--- a step is judged by the two bytes of L alone
-same-step : (got : ℕ) (p q : List ℕ) → take 2 p ≡ take 2 q → stepOf got p ≡ stepOf got q
-unfolding stepOf
-same-step got p q e =
-    let byte : (k : ℕ) → k < 2 → getD p k 0 ≡ getD q k 0 = λ k h. sym (getD-take 2 p k 0 h) ∙ ap (λ (l : List ℕ). getD l k 0) e ∙ getD-take 2 q k 0 h in
-    rw (byte 0 (omega arith), byte 1 (omega arith))
-
-pub turned :
-    (got : ℕ) (first packet : List ℕ) {b after : List ℕ} {step : Step} {rest : ℕ} {l : Line} {on : Bool} → step ≡ stepOf got first
-    → take 2 packet ≡ take 2 first → Turn b packet step rest l after → on ≡ goesOn step rest → Turned b on after
-turned got first packet {step = step} {rest = rest} {l = l} judged kept turn goes =
-    let e : step ≡ stepOf got packet = judged ∙ same-step got first packet (sym kept) in
-    record {
-      packet = packet;
-      got = got;
-      rest = rest;
-      line = l;
-      turn = rw e at turn;
-      goes = goes ∙ ap (λ (s : Step). goesOn s rest) e;
-    }

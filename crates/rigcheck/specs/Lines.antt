@@ -10,9 +10,9 @@ use lib.ListN.{length, getD, take}
 use Rattle.replies.specs.declared.Reply.{Reply}
 use Rattle.replies.specs.Replies.{refuses}
 use Rattle.house.specs.Meets.{houseTable}
-use Rattle.session.specs.Open.{openReply, openBlock}
-use Rattle.session.specs.Take.{Take}
-use Rattle.session.specs.Ask.{Ask}
+use Rattle.opening.specs.Open.{openReply, openBlock}
+use Rattle.taking.specs.Take.{Take}
+use Rattle.asking.specs.Ask.{Ask}
 use Rattle.lines.specs.declared.Line.{Line}
 use Rattle.lines.specs.Text.{line, lineOf, holding}
 use Rattle.rigcheck.specs.declared.Step.{Step}
@@ -79,12 +79,3 @@ pub data Turn (b p : List ℕ) (step : Step) (rest : ℕ) (l : Line) (after : Li
   too-long : step ≡ Long → l ≡ holding (line longWord 5 0 0) → after ≡ b → Turn b p step rest l after
   cut-behind : (size : ℕ) → step ≡ Packet size → rest < size → l ≡ holding (line cutWord 5 0 0) → after ≡ b → Turn b p step rest l after
   whole : (size : ℕ) → step ≡ Packet size → size ≤ rest → Answered b (take (2 + size) p) l after → Turn b p step rest l after
-
--- a turn on what could be read, whatever that is: the block afterwards, and whether the run goes on
-pub record Turned (b : List ℕ) (on : Bool) (after : List ℕ) : Type 0 where
-  pub packet : List ℕ
-  pub got : ℕ
-  pub rest : ℕ
-  pub line : Line
-  pub turn : Turn b packet (stepOf got packet) rest line after
-  pub goes : on ≡ goesOn (stepOf got packet) rest

@@ -6,8 +6,9 @@ ghost use lib.ListN.{length, take};
 ghost use Rattle.blocks.specs.Layout.{blockSize};
 ghost use Rattle.lines.specs.Text.{line, longestWord, room, holding};
 ghost use Rattle.rigcheck.specs.declared.Step.the-variants.{Packet};
-ghost use Rattle.rigcheck.specs.Lines.{isFacts, Answered, longest, stepOf, goesOn, Turn, Turned, Opening};
+ghost use Rattle.rigcheck.specs.Lines.{isFacts, Answered, longest, stepOf, goesOn, Turn, Opening};
 use lines::Line;
+use replies::Cause;
 use replies::Reply;
 
 // The largest L of a packet.
@@ -82,10 +83,10 @@ fn answered(block: &mut [u8], packet: &[u8]) -> Line
     ensures { λ r. ⌜ Answered (now (block .entry)) (now (packet .entry)) r (now (block .exit)) ⌝ }
 {
     if is_facts(packet) {
-        let reply = session::take::take(block, packet);
+        let reply = taking::take(block, packet);
         return Line::of_reply(b"facts", reply);
     }
-    let reply = session::ask::ask(block, packet);
+    let reply = asking::ask(block, packet);
     Line::of_reply(b"rule", reply)
 }
 
@@ -94,7 +95,7 @@ fn refused(word: &[u8]) -> Line
     requires { ⌜ length (now word) ≤ longestWord ⌝ }
     ensures { λ r. ⌜ r ≡ holding (line (now (word .entry)) 5 0 0) ⌝ }
 {
-    Line::of_reply(word, Reply::BadLength)
+    Line::of_reply(word, Reply::Refused(Cause::BadLength, 0))
 }
 
 // Answers a packet of which `rest` bytes could be read behind L, where that is all of them. Its line.
@@ -133,7 +134,7 @@ fn open(joints: u8, block: &mut [u8]) -> Opened
     requires { ⌜ length (now block) ≡ blockSize ⌝ }
     ensures { λ r. ⌜ Opening joints (now (block .entry)) (r .line) (r .refused) (now (block .exit)) ⌝ }
 {
-    let reply = session::open::open(HOUSE_KINDS, joints as u64, &house::table(), block);
+    let reply = opening::open(HOUSE_KINDS, joints as u64, &house::table(), block);
     let line = Line::of_reply(b"open", reply);
     Opened {
         line,
@@ -180,9 +181,7 @@ fn no_packet() -> [u8; LONGEST_PACKET]
 }
 
 // One packet. Whether the run goes on.
-fn next_packet(block: &mut [u8]) -> bool
-    ensures { λ r. ⌜ Turned (now (block .entry)) r (now (block .exit)) ⌝ }
-{
+fn next_packet(block: &mut [u8]) -> bool {
     let mut packet = no_packet();
     let got = read_to(&mut packet, 0, 2);
     let step = next_step(got, packet);

@@ -7,11 +7,12 @@ use Prim.Native.Nat.{ℕ, _<_, _≤_}
 use native.Mathlib.Omega.{arith}
 use native.Mathlib.Decide.{ℕ-discrete}
 use borrow.Author.Tests.{eq-eqb, ne-eqb}
-use Rattle.kinds.specs.Kinds.{Lawful, Under}
+use Rattle.kinds.specs.Kinds.{Under}
+use Rattle.kinds.specs.Laws.{Lawful}
 use Rattle.kinds.proofs.Order.{under-trans, meet-left, meet-right, meet-greatest, under-none}
 use Rattle.meaning.specs.Picture.{Picture, Placing}
-use Rattle.meaning.specs.Form.{Form, unknown, Smallest, Well}
-use Rattle.meaning.specs.Solving.{Models}
+use Rattle.meaning.specs.Form.{Form, unknown}
+use Rattle.meaning.specs.Solving.{Smallest, Well, Models}
 use Rattle.solver.specs.Steps.{renumber, knownOf, Joined}
 
 pub renumber-hit : (b a x : ℕ) → x ≡ b → renumber b a x ≡ a

@@ -3,4 +3,5 @@ pub mod Join
 pub mod Sets
 pub mod Run
 pub mod Takes
-pub mod Parts
+pub mod Stores
+pub mod Folding

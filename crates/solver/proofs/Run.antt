@@ -13,8 +13,8 @@ use borrow.Author.Tests.{eq-eqb, ne-eqb}
 use Rattle.kinds.specs.Kinds.{meetAt}
 use Rattle.meaning.specs.Picture.{Picture, Fact}
 use Rattle.meaning.specs.Picture.Fact.{same}
-use Rattle.meaning.specs.Form.{Form, unknown, Smallest, Well, classes}
-use Rattle.meaning.specs.Solving.{Models, Taken, Refuted}
+use Rattle.meaning.specs.Form.{Form, unknown, classes}
+use Rattle.meaning.specs.Solving.{Smallest, Well, Models, Taken, Refuted}
 use Rattle.solver.specs.Unpacked.{Ready}
 use Rattle.solver.specs.Steps.{bothKnown, smallestCount, InOrder, Pairs, Running, Pushed, JoinReady, JoinDone}
 use Rattle.solver.proofs.Join.{

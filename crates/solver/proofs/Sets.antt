@@ -7,12 +7,13 @@ use mathlib.Core.List.{[], _∷_}
 use Prim.Native.Nat.{ℕ, _<_, _≤_}
 use native.Mathlib.Omega.{arith}
 use native.Mathlib.Decide.{ℕ-discrete}
-use Rattle.kinds.specs.Kinds.{Lawful, Under}
+use Rattle.kinds.specs.Kinds.{Under}
+use Rattle.kinds.specs.Laws.{Lawful}
 use Rattle.kinds.proofs.Order.{under-trans, meet-left, meet-right, meet-greatest, under-none}
 use Rattle.meaning.specs.Picture.{Picture}
 use Rattle.meaning.specs.Picture.Fact.{has-kind, same, leads}
-use Rattle.meaning.specs.Form.{Form, unknown, Smallest, Well}
-use Rattle.meaning.specs.Solving.{Models, Taken, Refuted}
+use Rattle.meaning.specs.Form.{Form, unknown}
+use Rattle.meaning.specs.Solving.{Smallest, Well, Models, Taken, Refuted}
 use Rattle.solver.specs.Steps.{KindSet, LinkSet}
 use Rattle.solver.proofs.Join.{class-of}
 

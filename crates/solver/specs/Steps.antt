@@ -9,8 +9,8 @@ use Prim.Native.Nat.{ℕ, _+_, _*_, _<_, _≤_}
 use lib.Dec.{eqb}
 use lib.ListN.{length, getD}
 use Rattle.meaning.specs.Picture.{Picture, Placing, Fact, All}
-use Rattle.meaning.specs.Form.{Form, unknown, Well, classes}
-use Rattle.meaning.specs.Solving.{Models}
+use Rattle.meaning.specs.Form.{Form, unknown, classes}
+use Rattle.meaning.specs.Solving.{Well, Models}
 
 -- number b becomes a, any other stays
 abbrev pub renumber : ℕ → ℕ → ℕ → ℕ

@@ -3,13 +3,14 @@
 use mathlib.Core.Path.{_≡_}
 use mathlib.Core.Bool.{Bool, true, false}
 use mathlib.Core.List.{List}
-use Prim.Native.Nat.{ℕ, _*_, _<_, _≤_}
-use lib.ListN.{length}
-use Rattle.kinds.specs.Kinds.{Lawful, meetAt}
+use Prim.Native.Nat.{ℕ, _+_, _*_, _<_, _≤_}
+use lib.ListN.{length, take}
+use Rattle.kinds.specs.Kinds.{meetAt}
+use Rattle.kinds.specs.Laws.{Lawful}
 use Rattle.meaning.specs.Picture.{Fact}
 use Rattle.meaning.specs.Picture.Fact.{has-kind, same, leads}
-use Rattle.meaning.specs.Form.{Form, Well, listForm}
-use Rattle.meaning.specs.Solving.{Taken, Refuted}
+use Rattle.meaning.specs.Form.{Form, listForm}
+use Rattle.meaning.specs.Solving.{Well, Taken, Refuted}
 use Rattle.solver.specs.declared.Solved.{Solved}
 use Rattle.solver.specs.declared.NodeFact.{NodeFact}
 use Rattle.solver.specs.declared.NodeFact.the-variants.{Kind, Same, Link}
@@ -36,3 +37,9 @@ pub record Ready (n v : ℕ) (table : List ℕ) (S : Form) : Type 0 where
 pub record Took (n : ℕ) (meet : ℕ → ℕ → ℕ) (v : ℕ) (S : Form) (fs : List (Fact ℕ)) (ok : Bool) (T : Form) : Type 0 where
   pub taken : ok ≡ true → Taken n meet v S fs T
   pub refuted : ok ≡ false → Refuted n meet v S fs
+
+-- T is what S becomes when the first `at` facts are taken. These are all of them, or else no picture satisfies S, these and the next one.
+pub record Folded (n : ℕ) (meet : ℕ → ℕ → ℕ) (v : ℕ) (S : Form) (fs : List (Fact ℕ)) (at : ℕ) (ok : Bool) (T : Form) : Type 0 where
+  pub taken : Taken n meet v S (take at fs) T
+  pub all : ok ≡ true → at ≡ length fs
+  pub stopped : ok ≡ false → (at < length fs) × Refuted n meet v S (take (at + 1) fs)

@@ -33,6 +33,13 @@ pub struct Next {
     pub ok: bool,
 }
 
+// Facts taken one after another, until one clashes: the form with those before it, how many these are, and whether all of them were taken.
+pub struct Fold {
+    pub form: Solved,
+    pub at: usize,
+    pub ok: bool,
+}
+
 // b becomes a, any other number stays.
 fn renumbered(x: u8, b: u8, a: u8) -> u8
     ensures { λ r. ⌜ r ≡ renumber b a x ⌝ }
@@ -208,7 +215,7 @@ fn join_step(
 impl Solved {
     // x and y made one, and all that follows from it. The pairs still to be made one wait in two lists. A join adds at most 16
     // pairs and leaves one class less, so that 16 × 97 places are enough for 96 nodes.
-    fn settled(self, table: &[u8], n: usize, v: usize, x: u8, y: u8) -> Next
+    fn with_same(self, table: &[u8], n: usize, v: usize, x: u8, y: u8) -> Next
         requires { ⌜ Ready n v (now table) (formOf self) × (x < v) × (y < v) ⌝ }
         ensures { λ r. ⌜ Took n (meetAt n (now (table .entry))) v (formOf self) (same x y ∷ []) (r .ok) (formOf (r .form)) ⌝ }
     {
@@ -243,7 +250,7 @@ impl Solved {
 
     // The form with one fact more and all that follows from it, or a clash. A copy of the form costs more than most facts do: it is copied
     // in once, changed in place and copied out once, and only where classes are to be joined is it handed on. So each arm returns by itself
-    // and puts together anew what `settled` hands back: a result that the arms share would be copied once more.
+    // and puts together anew what `with_same` hands back: a result that the arms share would be copied once more.
     pub fn with_fact(self, table: &[u8], n: usize, v: usize, fact: NodeFact) -> Next
         requires { ⌜ Ready n v (now table) (formOf self) × InRange n v (nodeFact fact) ⌝ }
         ensures { λ r. ⌜ Took n (meetAt n (now (table .entry))) v (formOf self) (nodeFact fact ∷ []) (r .ok) (formOf (r .form)) ⌝ }
@@ -265,7 +272,7 @@ impl Solved {
                 if form.class[x as usize] == form.class[y as usize] {
                     return Next { form, ok: true };
                 }
-                let next = self.settled(table, n, v, x, y);
+                let next = self.with_same(table, n, v, x, y);
                 let joined = next.form;
                 return Next {
                     form: joined,
@@ -285,7 +292,7 @@ impl Solved {
                 if form.class[end as usize] == c {
                     return Next { form, ok: true };
                 }
-                let next = self.settled(table, n, v, end, y);
+                let next = self.with_same(table, n, v, end, y);
                 let joined = next.form;
                 return Next {
                     form: joined,

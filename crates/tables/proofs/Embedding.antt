@@ -1,5 +1,5 @@
--- Where the mark of each meet is the `&` of two marks, and no two kinds have one mark, meet is commutative and associative, because `&` is.
--- Nothing else is asked of the marks.
+-- Where the mask of each meet is the `&` of two masks, and no two kinds have one mask, meet is commutative and associative, because `&` is.
+-- Nothing else is asked of the masks.
 -- Assumes nothing.
 use mathlib.Core.Path.{_≡_, refl, sym, ap, ap₂, _∙_}
 use mathlib.Core.List.{List, [], _∷_, _++_}
@@ -13,8 +13,9 @@ use borrow.Author.Tests.{eq-eqb}
 use Rattle.kinds.specs.Kinds.{meetAt}
 use Rattle.kinds.proofs.Offset.{offset-lt}
 use Rattle.replies.specs.declared.Reply.the-variants.{Done}
-use Rattle.tables.specs.Check.{Law, Closed, keeps, forEach, pairs, triples, firstBreach}
-use Rattle.tables.specs.Marks.{Embedded}
+use Rattle.tables.specs.Check.{Law, keeps, forEach, pairs, triples, firstBreach}
+use Rattle.tables.specs.Sizes.{AllKinds}
+use Rattle.tables.specs.Masks.{Embedded}
 use Rattle.tables.proofs.Lawfulness.{kept-append, each-make, kept-passes}
 
 and-half : (a b : ℕ) → bitAnd a b / 2 ≡ bitAnd (a / 2) (b / 2)
@@ -37,15 +38,15 @@ and-assoc =
     ∙ ap₂ (λ (x y : ℕ). x * 2 + y) (ih (b / 2) (c / 2)) (min-assoc (a % 2) (b % 2) (c % 2))
     ∙ sym (and-step a (bitAnd b c) ∙ ap₂ (λ (x y : ℕ). bitAnd (a / 2) x * 2 + min (a % 2) y) (and-half b c) (and-odd b c)))
 
--- kinds below n, a meet of two of them, and a mark u for each
+-- kinds below n, a meet of two of them, and a mask u for each
 module _ {n : ℕ} {meet : ℕ → ℕ → ℕ} (u : ℕ → ℕ) (closed : (i j : ℕ) → i < n → j < n → meet i j < n)
     (common : (i j : ℕ) → i < n → j < n → u (meet i j) ≡ bitAnd (u i) (u j)) (apart : (i j : ℕ) → i < n → j < n → u i ≡ u j → i ≡ j) where
-  pub marks-swap : (i j : ℕ) → i < n → j < n → meet i j ≡ meet j i
-  marks-swap i j hi hj =
+  pub masks-swap : (i j : ℕ) → i < n → j < n → meet i j ≡ meet j i
+  masks-swap i j hi hj =
       apart (meet i j) (meet j i) (closed i j hi hj) (closed j i hj hi) (common i j hi hj ∙ and-comm (u i) (u j) ∙ sym (common j i hj hi))
 
-  pub marks-group : (i j k : ℕ) → i < n → j < n → k < n → meet (meet i j) k ≡ meet i (meet j k)
-  marks-group i j k hi hj hk =
+  pub masks-group : (i j k : ℕ) → i < n → j < n → k < n → meet (meet i j) k ≡ meet i (meet j k)
+  masks-group i j k hi hj hk =
       let ij = closed i j hi hj in
       let jk = closed j k hj hk in
       apart (meet (meet i j) k) (meet i (meet j k)) (closed (meet i j) k ij hk) (closed i (meet j k) hi jk)
@@ -54,10 +55,10 @@ module _ {n : ℕ} {meet : ℕ → ℕ → ℕ} (u : ℕ → ℕ) (closed : (i j
       ∙ sym (common i (meet j k) hi jk ∙ ap (bitAnd (u i)) (common j k hj hk)))
 
 -- where every pair is embedded, every pair commutes and every triple is associative
-pub embedded-passes : (n : ℕ) (table marks : List ℕ) → Closed n table → ((i : ℕ) → i < n → (j : ℕ) → j < n → Embedded n table marks i j)
+pub embedded-passes : (n : ℕ) (table masks : List ℕ) → AllKinds n table → ((i : ℕ) → i < n → (j : ℕ) → j < n → Embedded n table masks i j)
     → firstBreach n table (pairs n ++ triples n) ≡ Done 0
 unfolding pairs triples keeps
-embedded-passes n table marks closed all =
+embedded-passes n table masks closed all =
     kept-passes n table (pairs n ++ triples n)
     (kept-append n table (pairs n) (triples n)
     (each-make n table (λ i. forEach n (λ j. Law.swap i j ∷ [])) n
@@ -70,7 +71,7 @@ embedded-passes n table marks closed all =
     meets i j hi hj = closed (i * n + j) (offset-lt hi hj)
 
     swap : (i j : ℕ) → i < n → j < n → meetAt n table i j ≡ meetAt n table j i
-    swap = marks-swap (λ i. getD marks i 0) meets (λ i j hi hj. all i hi j hj .common) (λ i j hi hj. all i hi j hj .apart)
+    swap = masks-swap (λ i. getD masks i 0) meets (λ i j hi hj. all i hi j hj .common) (λ i j hi hj. all i hi j hj .apart)
 
     group : (i j k : ℕ) → i < n → j < n → k < n → meetAt n table (meetAt n table i j) k ≡ meetAt n table i (meetAt n table j k)
-    group = marks-group (λ i. getD marks i 0) meets (λ i j hi hj. all i hi j hj .common) (λ i j hi hj. all i hi j hj .apart)
+    group = masks-group (λ i. getD masks i 0) meets (λ i j hi hj. all i hi j hj .common) (λ i j hi hj. all i hi j hj .apart)

@@ -12,13 +12,16 @@ use mathlib.Core.Logic.{by-cases}
 use lib.Dec.{eqb, ltb}
 use lib.ListN.{getD}
 use borrow.Author.Tests.{eq-eqb, eqb-true, lt-ltb, ltb-true}
-use Rattle.kinds.specs.Kinds.{Lawful, meetAt}
+use Rattle.kinds.specs.Kinds.{meetAt}
+use Rattle.kinds.specs.Laws.{Lawful}
 use Rattle.kinds.proofs.Offset.{offset-lt}
 use Rattle.replies.specs.declared.Reply.{Reply}
 use Rattle.replies.specs.declared.Reply.the-variants.{Done}
 use Rattle.replies.specs.Replies.{refuses}
-use Rattle.tables.specs.Check.{Law, Sized, Closed, keeps, breach, from, forEach, entries, laws, firsts, pairs, triples, inOrder, firstBreach, tableReply}
-use Rattle.tables.proofs.Scan.{breach-refuses, no-more, first-kept, first-broken}
+use Rattle.replies.proofs.Laws.{test-passed}
+use Rattle.tables.specs.Check.{Law, keeps, from, forEach, entries, laws, firsts, pairs, triples, inOrder, firstBreach, tableReply}
+use Rattle.tables.specs.Sizes.{Sized, AllKinds}
+use Rattle.tables.proofs.Scan.{breach, no-more, first-kept, first-broken}
 
 module _ (n : ℕ) (table : List ℕ) where
   -- the table keeps every law of the list
@@ -59,14 +62,14 @@ module _ (n : ℕ) (table : List ℕ) where
   each-use f m a k h = from-use f 0 m a k (omega arith) (omega arith)
 
   -- where nothing is refused every law is kept, and the other way round
-  step-passes : (b : Bool) (law : Law) (r : Reply) (K : Type 0) → (refuses r ≡ false → K) → refuses (cond b r (breach n law)) ≡ false → (b ≡ true) × K
-  step-passes true law r K f e = (refl, f e)
-  step-passes false law r K f e = let z : _≡_ {A = Bool} true false = sym (breach-refuses n table law) ∙ e in (sym z, f (cc))
+  first-passes : (law : Law) (more : List Law) → refuses (firstBreach n table (law ∷ more)) ≡ false →
+      (keeps n table law ≡ true) × (refuses (firstBreach n table more) ≡ false)
+  unfolding firstBreach
+  first-passes law more = test-passed _ _ _ _ _
 
   pub passes-kept : (xs : List Law) → refuses (firstBreach n table xs) ≡ false → Kept xs
-  unfolding firstBreach
   passes-kept [] e = tt
-  passes-kept (x ∷ xs) e = step-passes (keeps n table x) x (firstBreach n table xs) (Kept xs) (passes-kept xs) e
+  passes-kept (x ∷ xs) e = let q = first-passes x xs e in (q .0, passes-kept xs (q .1))
 
   pub kept-passes : (xs : List Law) → Kept xs → firstBreach n table xs ≡ Done 0
   kept-passes [] a = no-more n table
@@ -76,7 +79,7 @@ module _ (n : ℕ) (table : List ℕ) where
   pub passes-done : (xs : List Law) → refuses (firstBreach n table xs) ≡ false → firstBreach n table xs ≡ Done 0
   passes-done xs e = kept-passes xs (passes-kept xs e)
 
-  pub kept-entries : Kept (entries n) ↔ Closed n table
+  pub kept-entries : Kept (entries n) ↔ AllKinds n table
   unfolding entries keeps
   kept-entries = (
     λ a p h. ltb-true _ _ (each-use (λ q. Law.entry q ∷ []) (n * n) a p h .0),
@@ -102,7 +105,7 @@ module _ (n : ℕ) (table : List ℕ) where
             (each-use (λ z. Law.group i j z ∷ []) n (each-use (λ y. forEach n (λ z. Law.group i y z ∷ [])) n (three i hi) j hj) k hk .0);
       }
 
-  lawful-closed : 0 < n → Lawful n (meetAt n table) → Closed n table
+  lawful-closed : 0 < n → Lawful n (meetAt n table) → AllKinds n table
   lawful-closed pos L p h =
       let e : p / n * n + p % n ≡ p = div-add-mod' p n in
       rw e at (L .closed (p / n) (p % n) (div-lt-iff-lt-mul pos .1 h) (mod-lt p pos))

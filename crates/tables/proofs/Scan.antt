@@ -1,16 +1,21 @@
 -- Loops that stop at the first breach: the reply is that to what is left of the laws, and each turn leaves one part less.
 -- Assumes nothing.
 use mathlib.Core.Path.{_≡_, refl, ap, _∙_, sym}
-use mathlib.Core.Bool.{Bool, true, false, not, cond}
-use mathlib.Core.List.{List, [], _∷_, _++_, append-assoc, append-nil}
+use mathlib.Core.Bool.{true, false}
+use mathlib.Core.List.{List, [], _∷_, _++_, map, map-append, append-assoc, append-nil}
 use Prim.Native.Nat.{ℕ, zero, suc, _+_, _-_, _≤_, _<_}
 use native.Mathlib.Omega.{arith}
 use native.Mathlib.Numerals.{add-one}
-use lib.Dec.{eqb}
+use Rattle.replies.specs.declared.Cause.{Cause}
 use Rattle.replies.specs.declared.Reply.{Reply}
-use Rattle.replies.specs.declared.Reply.the-variants.{Done, LawBroken}
-use Rattle.replies.specs.Replies.{refuses}
-use Rattle.tables.specs.Check.{Law, keeps, breach, from, forEach, firstBreach}
+use Rattle.replies.specs.declared.Reply.the-variants.{Done, Refused}
+use Rattle.replies.specs.Replies.{refuses, firstRefusal}
+use Rattle.replies.proofs.Laws.{first-none, first-front, front-refuses, front-passes, test-here, test-next}
+use Rattle.tables.specs.Check.{Law, keeps, breachCause, breachPlace, lawReply, from, forEach, firstBreach}
+
+-- the reply to the breach of a law
+abbrev pub breach : ℕ → Law → Reply
+breach n law = Refused (breachCause law) (breachPlace n law)
 
 -- what is left at i of the laws of f for each i below m
 abbrev pub rest : (ℕ → List Law) → ℕ → ℕ → List Law
@@ -29,45 +34,31 @@ rest-start : (f : ℕ → List Law) (m : ℕ) → forEach m f ≡ rest f 0 m
 rest-start f m = let e : m ≡ m - 0 = omega arith in ap (from f 0) e
 
 module _ (n : ℕ) (table : List ℕ) where
-  pub breach-refuses : (law : Law) → refuses (breach n law) ≡ true
-  breach-refuses (Law.entry p) = refl
-  breach-refuses (Law.self i) = refl
-  breach-refuses (Law.none i) = refl
-  breach-refuses (Law.any i) = refl
-  breach-refuses (Law.swap i j) = refl
-  breach-refuses (Law.group i j k) = refl
-
   pub no-more : firstBreach n table [] ≡ Done 0
   unfolding firstBreach
-  no-more = refl
+  no-more = first-none (Done 0)
 
   -- the first law of a list, kept or broken
   pub first-kept : (law : Law) (more : List Law) → keeps n table law ≡ true → firstBreach n table (law ∷ more) ≡ firstBreach n table more
   unfolding firstBreach
-  first-kept law more e = rw e
+  first-kept law more e = test-next _ _ _ _ _ e
 
   pub first-broken : (law : Law) (more : List Law) → keeps n table law ≡ false → firstBreach n table (law ∷ more) ≡ breach n law
   unfolding firstBreach
-  first-broken law more e = rw e
+  first-broken law more e = test-here _ _ _ _ _ e
 
-  step-first : (b : Bool) (law : Law) (x y : Reply) → (refuses x ≡ true → y ≡ x) → refuses (cond b x (breach n law)) ≡ true → cond b y (breach n law) ≡ cond b x (breach n law)
-  step-first true law x y f h = f h
-  step-first false law x y f h = refl
+  two-lists : (xs ys : List Law) → firstBreach n table (xs ++ ys) ≡ firstRefusal (map (lawReply n table) xs) (firstBreach n table ys)
+  unfolding firstBreach
+  two-lists xs ys = ap (λ (rs : List Reply). firstRefusal rs (Done 0)) (map-append (lawReply n table) xs ys) ∙ first-front _ _ _
 
   -- the first breach of two lists is that of the first, unless it has none
   pub first-of : (xs ys : List Law) → refuses (firstBreach n table xs) ≡ true → firstBreach n table (xs ++ ys) ≡ firstBreach n table xs
   unfolding firstBreach
-  first-of [] ys e = cc
-  first-of (x ∷ xs) ys e = step-first (keeps n table x) x (firstBreach n table xs) (firstBreach n table (xs ++ ys)) (first-of xs ys) e
-
-  step-second : (b : Bool) (law : Law) (x y z : Reply) → (refuses x ≡ false → y ≡ z) → refuses (cond b x (breach n law)) ≡ false → cond b y (breach n law) ≡ z
-  step-second true law x y z f h = f h
-  step-second false law x y z f h = let e : _≡_ {A = Bool} true false = sym (breach-refuses law) ∙ h in cc
+  first-of xs ys e = two-lists xs ys ∙ front-refuses _ _ _ e
 
   pub second-of : (xs ys : List Law) → refuses (firstBreach n table xs) ≡ false → firstBreach n table (xs ++ ys) ≡ firstBreach n table ys
   unfolding firstBreach
-  second-of [] ys e = refl
-  second-of (x ∷ xs) ys e = step-second (keeps n table x) x (firstBreach n table xs) (firstBreach n table (xs ++ ys)) (firstBreach n table ys) (second-of xs ys) e
+  second-of xs ys e = two-lists xs ys ∙ front-passes _ _ _ e
 
 -- a loop at i: the reply r is that to the laws of f from i on, and then to more
 pub record Loop (n : ℕ) (table : List ℕ) (r : Reply) (f : ℕ → List Law) (i m : ℕ) (more : List Law) : Type 0 where
@@ -106,8 +97,8 @@ module _ {n : ℕ} {table : List ℕ} {r : Reply} {g : ℕ → Law} {i m : ℕ} 
 
   pub broken : keeps n table (g i) ≡ false → r ≡ breach n (g i)
   broken e = let q : firstBreach n table (g i ∷ []) ≡ breach n (g i) = first-broken n table (g i) [] e in
-      stops l h (ap refuses q ∙ breach-refuses n table (g i)) ∙ q
+      stops l h (ap refuses q) ∙ q
 
 -- a breach found at the place that the law names
-pub told : {r : Reply} {p q : ℕ} → p ≡ q → r ≡ LawBroken q → LawBroken p ≡ r
+pub told : {r : Reply} {cause : Cause} {p q : ℕ} → p ≡ q → r ≡ Refused cause q → Refused cause p ≡ r
 told e f = cc

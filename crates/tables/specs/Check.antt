@@ -1,24 +1,16 @@
 -- The check of a table: each law with the reply to its breach, the order in which they are looked at, and the first breach.
 -- Assumes nothing.
-use mathlib.Core.Path.{_≡_}
-use mathlib.Core.Bool.{Bool, cond}
-use mathlib.Core.List.{List, [], _∷_, _++_}
-use Prim.Native.Nat.{ℕ, zero, suc, _+_, _*_, _≤_, _<_}
+use mathlib.Core.Bool.{Bool}
+use mathlib.Core.List.{List, [], _∷_, _++_, map}
+use Prim.Native.Nat.{ℕ, zero, suc, _+_, _*_}
 use lib.Dec.{eqb, ltb}
-use lib.ListN.{length, getD}
+use lib.ListN.{getD}
+use Rattle.replies.specs.declared.Cause.{Cause}
+use Rattle.replies.specs.declared.Cause.the-variants.{NoKind, LawBroken}
 use Rattle.replies.specs.declared.Reply.{Reply}
-use Rattle.replies.specs.declared.Reply.the-variants.{Done, NoKind, LawBroken}
+use Rattle.replies.specs.declared.Reply.the-variants.{Done}
+use Rattle.replies.specs.Replies.{unless, firstRefusal}
 use Rattle.kinds.specs.Kinds.{meetAt}
-
--- a table of n kinds has n × n bytes
-pub record Sized (n : ℕ) (table : List ℕ) : Type 0 where
-  pub low : 2 ≤ n
-  pub high : n ≤ 64
-  pub size : length table ≡ n * n
-
--- every entry is a kind
-abbrev pub Closed : ℕ → List ℕ → Type 0
-Closed n table = (p : ℕ) → p < n * n → getD table p 0 < n
 
 pub data Law : Type 0 where
   -- the entry at p is a kind
@@ -43,14 +35,27 @@ keeps n table (any i) = eqb (meetAt n table 1 i) i
 keeps n table (swap i j) = eqb (meetAt n table i j) (meetAt n table j i)
 keeps n table (group i j k) = eqb (meetAt n table (meetAt n table i j) k) (meetAt n table i (meetAt n table j k))
 
--- the reply where a law is broken: 2 at the entry, 3 at the entry read, and for a pair or a triple at i × n + j
-abbrev pub breach : ℕ → Law → Reply
-breach n (entry p) = NoKind p
-breach n (self i) = LawBroken (i * n + i)
-breach n (none i) = LawBroken (0 * n + i)
-breach n (any i) = LawBroken (1 * n + i)
-breach n (swap i j) = LawBroken (i * n + j)
-breach n (group i j k) = LawBroken (i * n + j)
+-- what is told where a law is broken: 2 for an entry, 3 for any other law
+abbrev pub breachCause : Law → Cause
+breachCause (entry p) = NoKind
+breachCause (self i) = LawBroken
+breachCause (none i) = LawBroken
+breachCause (any i) = LawBroken
+breachCause (swap i j) = LawBroken
+breachCause (group i j k) = LawBroken
+
+-- at the offset of the entry read, and for a pair or a triple at i × n + j
+abbrev pub breachPlace : ℕ → Law → ℕ
+breachPlace n (entry p) = p
+breachPlace n (self i) = i * n + i
+breachPlace n (none i) = 0 * n + i
+breachPlace n (any i) = 1 * n + i
+breachPlace n (swap i j) = i * n + j
+breachPlace n (group i j k) = i * n + j
+
+-- the reply to one law
+abbrev pub lawReply : ℕ → List ℕ → Law → Reply
+lawReply n table law = unless (keeps n table law) (breachCause law) (breachPlace n law)
 
 -- the laws of f at i, i + 1, .., count of them
 unfoldable pub from : (ℕ → List Law) → ℕ → ℕ → List Law
@@ -83,8 +88,7 @@ inOrder n = entries n ++ (firsts n ++ (pairs n ++ triples n))
 
 -- the reply to the first law of the list that the table breaks
 unfoldable pub firstBreach : ℕ → List ℕ → List Law → Reply
-firstBreach n table [] = Done 0
-firstBreach n table (law ∷ more) = cond (keeps n table law) (firstBreach n table more) (breach n law)
+firstBreach n table list = firstRefusal (map (lawReply n table) list) (Done 0)
 
 abbrev pub tableReply : ℕ → List ℕ → Reply
 tableReply n table = firstBreach n table (inOrder n)

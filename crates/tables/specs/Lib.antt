@@ -1,2 +1,3 @@
 pub mod Check
-pub mod Marks
+pub mod Sizes
+pub mod Masks

@@ -5,7 +5,8 @@ use mathlib.Core.List.{List}
 use Prim.Native.Nat.{ℕ}
 use lib.ListN.{length}
 use borrow.Author.Tests.{eq-eqb, ne-eqb}
-use Rattle.replies.specs.declared.Reply.the-variants.{Done, BadSize}
+use Rattle.replies.specs.declared.Cause.the-variants.{BadSize}
+use Rattle.replies.specs.declared.Reply.the-variants.{Done, Refused}
 use Rattle.house.specs.Meets.{houseTable}
 use Rattle.vornulica.specs.House.{houseReply, houseBuffer}
 
@@ -16,7 +17,7 @@ module _ (s : List ℕ) where
   pub house-written : (meets : List ℕ) → length s ≡ 1089 → meets ≡ houseTable → meets ≡ houseBuffer s
   house-written meets e q = rw (eq-eqb (length s) 1089 e) q
 
-  pub house-refused : (length s ≡ 1089 → ⊥) → houseReply s ≡ BadSize
+  pub house-refused : (length s ≡ 1089 → ⊥) → houseReply s ≡ Refused BadSize 0
   house-refused d = rw (ne-eqb (length s) 1089 d)
 
   pub house-kept : (length s ≡ 1089 → ⊥) → s ≡ houseBuffer s

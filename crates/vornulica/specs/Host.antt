@@ -5,8 +5,8 @@ use mathlib.Core.List.{List}
 use Prim.Native.Nat.{ℕ}
 use Rattle.replies.specs.declared.Reply.{Reply}
 use Rattle.replies.specs.Replies.{packed}
-use Rattle.session.specs.Take.{Take}
-use Rattle.session.specs.Ask.{Ask}
+use Rattle.taking.specs.Take.{Take}
+use Rattle.asking.specs.Ask.{Ask}
 
 -- the number of the reply to taking the packet, with this block afterwards
 pub record TakeNumber (b p : List ℕ) (number : ℕ) (after : List ℕ) : Type 0 where

@@ -5,12 +5,13 @@ use mathlib.Core.List.{List}
 use Prim.Native.Nat.{ℕ}
 use lib.Dec.{eqb}
 use lib.ListN.{length}
+use Rattle.replies.specs.declared.Cause.the-variants.{BadSize}
 use Rattle.replies.specs.declared.Reply.{Reply}
-use Rattle.replies.specs.declared.Reply.the-variants.{Done, BadSize}
+use Rattle.replies.specs.Replies.{unless}
 use Rattle.house.specs.Meets.{houseTable}
 
 abbrev pub houseReply : List ℕ → Reply
-houseReply buffer = cond (eqb (length buffer) 1089) (Done 0) BadSize
+houseReply buffer = unless (eqb (length buffer) 1089) BadSize 0
 
 -- the buffer afterwards
 abbrev pub houseBuffer : List ℕ → List ℕ

@@ -2,10 +2,11 @@
 // What is lent by `&` cannot be written; the contracts say what becomes of what is lent by `&mut`.
 ghost use mathlib.Core.Path.{_≡_};
 ghost use Rattle.replies.specs.Replies.{packed};
-ghost use Rattle.session.specs.Open.{openReply, openBlock};
-ghost use Rattle.session.specs.Write.{writeReply, writtenOutput};
+ghost use Rattle.opening.specs.Open.{openReply, openBlock};
+ghost use Rattle.writing.specs.Write.{writeReply, writtenOutput};
 ghost use Rattle.vornulica.specs.House.{houseReply, houseBuffer};
 ghost use Rattle.vornulica.specs.Host.{TakeNumber, AskNumber};
+use replies::Cause;
 use replies::Reply;
 
 // Opens a session of v joints with a table of n kinds over the block.
@@ -13,7 +14,7 @@ use replies::Reply;
 pub extern "C" fn rig_open(n: u64, v: u64, table: &[u8], block: &mut [u8]) -> u64
     ensures { λ r. ⌜ (r ≡ packed (openReply n v (now (table .entry)) (now (block .entry)))) × (now (block .exit) ≡ openBlock n v (now (table .entry)) (now (block .entry))) ⌝ }
 {
-    replies::to_host(session::open::open(n, v, table, block))
+    replies::to_host(opening::open(n, v, table, block))
 }
 
 // Takes all facts of the packet into the session, or none.
@@ -21,7 +22,7 @@ pub extern "C" fn rig_open(n: u64, v: u64, table: &[u8], block: &mut [u8]) -> u6
 pub extern "C" fn rig_take(block: &mut [u8], packet: &[u8]) -> u64
     ensures { λ r. ⌜ TakeNumber (now (block .entry)) (now (packet .entry)) r (now (block .exit)) ⌝ }
 {
-    replies::to_host(session::take::take(block, packet))
+    replies::to_host(taking::take(block, packet))
 }
 
 // Asks a rule: the third number is the verdict.
@@ -29,7 +30,7 @@ pub extern "C" fn rig_take(block: &mut [u8], packet: &[u8]) -> u64
 pub extern "C" fn rig_ask(block: &[u8], packet: &[u8]) -> u64
     ensures { λ r. ⌜ AskNumber (now (block .entry)) (now (packet .entry)) r ⌝ }
 {
-    replies::to_host(session::ask::ask(block, packet))
+    replies::to_host(asking::ask(block, packet))
 }
 
 // Writes the solved form as a facts packet.
@@ -37,7 +38,7 @@ pub extern "C" fn rig_ask(block: &[u8], packet: &[u8]) -> u64
 pub extern "C" fn rig_write(block: &[u8], out: &mut [u8]) -> u64
     ensures { λ r. ⌜ (r ≡ packed (writeReply (now (block .entry)) (now (out .entry)))) × (now (out .exit) ≡ writtenOutput (now (block .entry)) (now (out .entry))) ⌝ }
 {
-    replies::to_host(session::write::write(block, out))
+    replies::to_host(writing::write(block, out))
 }
 
 // Writes the house table, 33 × 33 bytes.
@@ -46,7 +47,7 @@ pub extern "C" fn rig_house(table: &mut [u8]) -> u64
     ensures { λ r. ⌜ (r ≡ packed (houseReply (now (table .entry)))) × (now (table .exit) ≡ houseBuffer (now (table .entry))) ⌝ }
 {
     if table.len() != 1089 {
-        return replies::to_host(Reply::BadSize);
+        return replies::to_host(Reply::Refused(Cause::BadSize, 0));
     }
     runs::copy(table, &house::table());
     replies::to_host(Reply::Done(0))

@@ -1,108 +1,104 @@
--- `blocks::well_formed` meets its contract: the clauses in their order, for the n and v that were read.
+-- `blocks::well_formed` meets its contract: the table's room, then the session's own bytes, for the n and V that were read.
 -- Assumes nothing.
-use Rattle.blocks.proofs.Checks.{first-fails, first-passes, by-clauses, within}
+use mathlib.Core.Path.{_≡_, ap, _∙_}
+use mathlib.Core.Bool.{Bool, _&&_}
+use mathlib.Core.List.{List}
+use Prim.Native.Nat.{ℕ}
+use native.Mathlib.Omega.{arith}
+use lib.ListN.{length, drop, length-drop}
+use lib.Seq.{take-all}
+use Rattle.blocks.specs.Layout.{sessionSize, kindsOf, jointsOf, blockForm, roomOf}
+use Rattle.blocks.specs.WellFormed.{all, within, jointFits, tableFits, jointsFit}
+use Rattle.blocks.proofs.Checks.{first-fails, first-passes, in-between}
 use borrow.Author.Needs.{needs}
 use Rattle.blocks.proofs.well_formed.Statement.{statement}
 use Rattle.blocks.proofs.well_formed.Tie as tie
 
-shared-slice-read-wide : tie.Need-shared-slice-read-wide
-shared-slice-read-wide c = search needs
+-- the answers, for the n and V that stand in the block
+table-read :
+    (c : tie.After-table-fits) →
+    let b = c .before .before .before .before .args .block .now in c .table-fits .result ≡ tableFits (kindsOf b) (roomOf b)
+table-read c =
+    let s = c .before .before .before .before in
+    let b = s .args .block .now in
+    c .table-fits .ensures
+    ∙ ap (tableFits (c .before .before .kind-count .result)) (take-all 4096 (roomOf b) (omega (arith, s .pre, length-drop sessionSize b)))
+    ∙ ap (λ (n : ℕ). tableFits n (roomOf b)) (c .before .before .kind-count .ensures)
 
-wide-requires : tie.Need-wide-requires
-wide-requires c κs = search needs
+joints-read : (c : tie.After-in-range) → c .in-range .result ≡ within 1 64 (jointsOf (c .before .before .before .before .before .before .before .args .block .now))
+joints-read c = c .in-range .ensures ∙ ap (within 1 64) (c .before .joint-count .ensures)
 
-shared-slice-read-wide-2 : tie.Need-shared-slice-read-wide-2
-shared-slice-read-wide-2 c = search needs
+fits-read :
+    (c : tie.After-joints-fit) →
+    let b = c .before .before .before .before .before .before .before .before .before .args .block .now in
+    c .joints-fit .result ≡ all (jointFits (kindsOf b) (jointsOf b) (blockForm b)) 0 64
+fits-read c =
+    let b = c .before .before .before .before .before .before .before .before .before .args .block .now in
+    c .joints-fit .ensures
+    ∙ ap (λ (n : ℕ). all (jointFits n (c .before .before .before .joint-count .result) (blockForm b)) 0 64) (c .before .before .before .before .before .before .before .kind-count .ensures)
+    ∙ ap (λ (v : ℕ). all (jointFits (kindsOf b) v (blockForm b)) 0 64) (c .before .before .before .joint-count .ensures)
 
-wide-requires-2 : tie.Need-wide-requires-2
-wide-requires-2 c κs = search needs
+kind-count-requires : tie.Need-kind-count-requires
+kind-count-requires c κs = search needs
+
+cast-n : tie.Need-cast-n
+cast-n c = search needs
+
+sub-table-fits : tie.Need-sub-table-fits
+sub-table-fits c = search needs
+
+part-table-fits-start : tie.Need-part-table-fits-start
+part-table-fits-start c = search needs
+
+part-table-fits-end : tie.Need-part-table-fits-end
+part-table-fits-end c = search needs
+
+table-fits-requires : tie.Need-table-fits-requires
+table-fits-requires c κs = search needs
+
+returns : tie.Need-returns
+returns c = first-fails _ (table-read (c .before)) (c .if1 .taken)
+
+joint-count-requires : tie.Need-joint-count-requires
+joint-count-requires c κs = search needs
+
+cast-v : tie.Need-cast-v
+cast-v c = search needs
 
 in-range-requires : tie.Need-in-range-requires
 in-range-requires c κs = search needs
 
-returns : tie.Need-returns
-returns c = let read = c .before .before in
-    let s = read .before .before .before .before .before in
-    by-clauses (s .args .block .now) (read .before .before .wide .ensures) (read .wide2 .ensures)
-    (first-fails _ (c .before .in-range .ensures) (c .if1 .taken))
-
-in-range-requires-2 : tie.Need-in-range-requires-2
-in-range-requires-2 c κs = search needs
-
 returns-2 : tie.Need-returns-2
-returns-2 c = let one = c .before .before in
-    let read = one .before .before in
-    let s = read .before .before .before .before .before in
-    by-clauses (s .args .block .now) (read .before .before .wide .ensures) (read .wide2 .ensures)
-    (first-passes _ (one .before .in-range .ensures) (one .if1 .left)
-    (first-fails _ (c .before .in-range2 .ensures) (c .if2 .taken)))
-
-table-passes-requires : tie.Need-table-passes-requires
-table-passes-requires c κs = let one = c .before .before in
-    let s = one .before .before .before .before .before .before .before in
-    let h = within (one .before .in-range .ensures) (one .if1 .left) in
-    (s .pre, h .0, h .1)
-
-returns-3 : tie.Need-returns-3
-returns-3 c = let two = c .before .before in
-    let one = two .before .before in
-    let read = one .before .before in
-    let s = read .before .before .before .before .before in
-    by-clauses (s .args .block .now) (read .before .before .wide .ensures) (read .wide2 .ensures)
-    (first-passes _ (one .before .in-range .ensures) (one .if1 .left)
-    (first-passes _ (two .before .in-range2 .ensures) (two .if2 .left)
-    (first-fails _ (c .before .table-passes .ensures) (c .if3 .taken))))
+unfolding jointsFit
+returns-2 c =
+    let one = c .before .before .before in
+    first-passes _ (table-read (one .before)) (one .if1 .left) (first-fails _ (joints-read (c .before)) (c .if2 .taken))
 
 joints-fit-requires : tie.Need-joints-fit-requires
-joints-fit-requires c κs = let two = c .before .before in
-    let s = two .before .before .before .before .before .before .before .before .before in
-    (s .pre, within (two .before .in-range2 .ensures) (two .if2 .left) .1)
+joints-fit-requires c κs =
+    (omega (arith, c .before .before .before .before .before .before .before .before .pre), in-between (c .before .in-range .ensures) (c .if2 .left) .1)
 
-returns-4 : tie.Need-returns-4
-returns-4 c = let three = c .before .before in
-    let two = three .before .before in
-    let one = two .before .before in
-    let read = one .before .before in
-    let s = read .before .before .before .before .before in
-    by-clauses (s .args .block .now) (read .before .before .wide .ensures) (read .wide2 .ensures)
-    (first-passes _ (one .before .in-range .ensures) (one .if1 .left)
-    (first-passes _ (two .before .in-range2 .ensures) (two .if2 .left)
-    (first-passes _ (three .before .table-passes .ensures) (three .if3 .left)
-    (first-fails _ (c .before .joints-fit .ensures) (c .if4 .taken)))))
-
-rest-is-zero-requires : tie.Need-rest-is-zero-requires
-rest-is-zero-requires c κs = let one = c .before .before .before .before .before .before in
-    let s = one .before .before .before .before .before .before .before in
-    (s .pre, within (one .before .in-range .ensures) (one .if1 .left) .1)
-
-returns-5 : tie.Need-returns-5
-returns-5 c = let four = c .before in
-    let three = four .before .before in
-    let two = three .before .before in
-    let one = two .before .before in
-    let read = one .before .before in
-    let s = read .before .before .before .before .before in
-    by-clauses (s .args .block .now) (read .before .before .wide .ensures) (read .wide2 .ensures)
-    (first-passes _ (one .before .in-range .ensures) (one .if1 .left)
-    (first-passes _ (two .before .in-range2 .ensures) (two .if2 .left)
-    (first-passes _ (three .before .table-passes .ensures) (three .if3 .left)
-    (first-passes _ (four .before .joints-fit .ensures) (four .if4 .left) (c .rest-is-zero .ensures)))))
+returns-3 : tie.Need-returns-3
+unfolding jointsFit
+returns-3 c =
+    let two = c .before in
+    let one = two .before .before .before in
+    first-passes _ (table-read (one .before)) (one .if1 .left) (first-passes _ (joints-read (two .before)) (two .if2 .left) (fits-read c))
 
 pub well-formed-spec : {M : Type 1} → statement M
 well-formed-spec =
     tie.close
     (tie.spec
-    shared-slice-read-wide
-    wide-requires
-    shared-slice-read-wide-2
-    wide-requires-2
-    in-range-requires
+    kind-count-requires
+    cast-n
+    sub-table-fits
+    part-table-fits-start
+    part-table-fits-end
+    table-fits-requires
     returns
-    in-range-requires-2
+    joint-count-requires
+    cast-v
+    in-range-requires
     returns-2
-    table-passes-requires
-    returns-3
     joints-fit-requires
-    returns-4
-    rest-is-zero-requires
-    returns-5)
+    returns-3)

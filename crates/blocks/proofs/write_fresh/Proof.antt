@@ -3,8 +3,9 @@
 use mathlib.Core.Path.{refl, _∙_}
 use native.Mathlib.Omega.{arith}
 use lib.ListN.{length-append, length-replicate}
+use Rattle.runs.proofs.Each.{each-length}
 use Rattle.kinds.proofs.Offset.{square-le}
-use Rattle.blocks.proofs.Checks.{none-written, part-written, all-written, in-order, each-length}
+use Rattle.blocks.proofs.Checks.{none-written, part-written, all-written, in-order}
 use borrow.Author.Needs.{needs}
 use Rattle.blocks.proofs.write_fresh.Statement.{statement}
 use Rattle.blocks.proofs.write_fresh.Tie as tie

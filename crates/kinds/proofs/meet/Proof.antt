@@ -1,4 +1,4 @@
--- `kinds::meet` meets its contract: the offset lies inside the table.
+-- `kinds::meet` meets its contract: the offset lies inside the table, as that of the mirrored entry does.
 -- Assumes nothing.
 use mathlib.Core.Path.{refl}
 use native.Mathlib.Omega.{arith}
@@ -7,13 +7,13 @@ use Rattle.kinds.proofs.meet.Statement.{statement}
 use Rattle.kinds.proofs.meet.Tie as tie
 
 mul-result : tie.Need-mul-result
-mul-result c = omega (arith, offset-lt (c .pre .2) (c .pre .3), square-le (c .pre .0))
+mul-result c = omega (arith, offset-lt (c .pre .2) (c .pre .3), offset-lt (c .pre .3) (c .pre .2), square-le (c .pre .0))
 
 add-result : tie.Need-add-result
-add-result c = omega (arith, offset-lt (c .pre .2) (c .pre .3), square-le (c .pre .0))
+add-result c = omega (arith, offset-lt (c .pre .2) (c .pre .3), offset-lt (c .pre .3) (c .pre .2), square-le (c .pre .0))
 
 shared-slice-read-result : tie.Need-shared-slice-read-result
-shared-slice-read-result c = let p = c .before .pre in omega (arith, offset-lt (p .2) (p .3), p .1)
+shared-slice-read-result c = let p = c .before .pre in omega (arith, offset-lt (p .2) (p .3), offset-lt (p .3) (p .2), p .1)
 
 returns : tie.Need-returns
 returns c = refl

@@ -5,7 +5,8 @@ use mathlib.Core.Path.{_≡_, sym, ap, _∙_}
 use Prim.Native.Nat.{_-_, _≤_}
 use native.Mathlib.Omega.{arith}
 use borrow.Author.Needs.{needs}
-use Rattle.replies.specs.declared.Reply.the-variants.{BadPart}
+use Rattle.replies.specs.declared.Cause.the-variants.{BadPart}
+use Rattle.replies.specs.declared.Reply.the-variants.{Refused}
 use Rattle.packets.specs.Packet.{factAt, factCount, factFits, factsReply}
 use Rattle.packets.proofs.Packet.{Left, begins, passes, stops, ends}
 use Rattle.packets.proofs.first_bad_fact.Statement.{statement}
@@ -43,15 +44,15 @@ loop-again c =
     let fits = rw e at (sym (c .before .fact-fits .ensures) ∙ c .if1 .taken) in
     (omega arith, l .1, passes (l .2) (c .before .before .before .loop-test .taken) fits)
 
-cast-t8 : tie.Need-cast-t8 Inv-loop μ-loop
-cast-t8 c = search needs
+cast-t9 : tie.Need-cast-t9 Inv-loop μ-loop
+cast-t9 c = search needs
 
 returns : tie.Need-returns Inv-loop μ-loop
 returns c =
     let l = c .before .before .before .before .loop .inv in
     let e = c .before .before .fact-at .ensures .0 in
     let unfit = rw e at (sym (c .before .fact-fits .ensures) ∙ c .if1 .left) in
-    ap BadPart e ∙ sym (stops (l .2) (c .before .before .before .loop-test .taken) unfit)
+    ap (Refused BadPart) e ∙ sym (stops (l .2) (c .before .before .before .loop-test .taken) unfit)
 
 returns-2 : tie.Need-returns-2 Inv-loop μ-loop
 returns-2 c = sym (ends (c .before .loop .inv .2) (c .loop-test .left))
@@ -69,6 +70,6 @@ first-bad-fact-spec =
     add-i
     loop-less
     loop-again
-    cast-t8
+    cast-t9
     returns
     returns-2)

@@ -45,8 +45,8 @@ loop-again c =
     let l = c .before .before .before .loop .inv in
     (omega arith, l .1, l .2, passes (l .3) (c .before .before .loop-test .taken) (sym (c .before .tie-fits .ensures) ∙ c .if1 .taken))
 
-cast-t9 : tie.Need-cast-t9 Inv-loop μ-loop
-cast-t9 c = search needs
+cast-t10 : tie.Need-cast-t10 Inv-loop μ-loop
+cast-t10 c = search needs
 
 returns : tie.Need-returns Inv-loop μ-loop
 returns c =
@@ -70,6 +70,6 @@ first-bad-tie-spec =
     add-i
     loop-less
     loop-again
-    cast-t9
+    cast-t10
     returns
     returns-2)

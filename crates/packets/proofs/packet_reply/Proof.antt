@@ -1,17 +1,21 @@
 -- `packets::packet_reply` meets its contract: each test has the outcome of the definition's, in its order.
 -- Assumes nothing.
-use mathlib.Core.Path.{_≡_, sym, _∙_}
+use mathlib.Core.Path.{_≡_, sym, ap₂, _∙_}
 use mathlib.Core.Bool.{true}
-use mathlib.Core.List.{List}
+use mathlib.Core.List.{List, [], _∷_}
 use Prim.Native.Nat.{ℕ, _≤_}
 use native.Mathlib.Omega.{arith}
 use lib.ListN.{length}
 use lib.Dec.{eqb}
 use borrow.Author.Tests.{eq-eqb, ne-eqb, not-true, not-false}
 use borrow.Author.Needs.{needs}
-use Rattle.replies.proofs.Laws.{or-first, or-second}
+use Rattle.replies.specs.declared.Cause.the-variants.{BadVersion, BadHeader, BadCount}
+use Rattle.replies.specs.declared.Reply.{Reply}
+use Rattle.replies.specs.Replies.{unless, firstRefusal}
+use Rattle.replies.proofs.Laws.{test-here, test-next}
 use Rattle.packets.specs.declared.Wanted.{Wanted}
-use Rattle.packets.specs.Packet.{version, purpose, ties, joints, lengthFits, countFits, Whole, within, packetReply}
+use Rattle.packets.specs.Packet.{version, purpose, ties, joints, lengthFits, countFits, within, tiesReply, factsReply, packetReply}
+use Rattle.packets.specs.Decoding.{Whole}
 use Rattle.packets.proofs.Packet as laws
 use Rattle.packets.proofs.packet_reply.Statement.{statement}
 use Rattle.packets.proofs.packet_reply.Tie as tie
@@ -58,6 +62,50 @@ joints-right c =
 count-right : (c : tie.Else6) → countFits (bytes (back6 c)) ≡ true
 count-right c = sym (c .before .count-fits .ensures) ∙ not-false _ (c .if6 .left)
 
+-- what is left of the replies where the tests so far are passed
+abbrev replyOf : tie.Else1 → Reply
+replyOf c = packetReply (wanted c) (c .before .before .before .args .n) (c .before .before .before .args .v) (bytes c)
+
+abbrev parts : tie.Else1 → List Reply
+parts c = tiesReply (c .before .before .before .args .v) (bytes c) ∷ []
+
+abbrev from-6 : tie.Else1 → List Reply
+from-6 c = unless (countFits (bytes c)) BadCount 0 ∷ parts c
+
+abbrev from-5 : tie.Else1 → List Reply
+from-5 c = unless (within (wanted c .joints) (joints (bytes c))) BadHeader 5 ∷ from-6 c
+
+abbrev from-4 : tie.Else1 → List Reply
+from-4 c = unless (within (wanted c .ties) (ties (bytes c))) BadHeader 4 ∷ from-5 c
+
+abbrev from-3 : tie.Else1 → List Reply
+from-3 c = unless (eqb (purpose (bytes c)) (wanted c .purpose)) BadHeader 3 ∷ from-4 c
+
+abbrev from-2 : tie.Else1 → List Reply
+from-2 c = unless (eqb (version (bytes c)) 1) BadVersion 2 ∷ from-3 c
+
+abbrev Left : tie.Else1 → List Reply → Type 0
+Left c rs = replyOf c ≡ firstRefusal rs (factsReply (c .before .before .before .args .n) (bytes c))
+
+past-1 : (c : tie.Else1) → Left c (from-2 c)
+unfolding packetReply
+past-1 c = test-next _ _ _ _ _ (length-right c)
+
+past-2 : (c : tie.Else2) → Left (back2 c) (from-3 (back2 c))
+past-2 c = past-1 (back2 c) ∙ test-next _ _ _ _ _ (version-right c)
+
+past-3 : (c : tie.Else3) → Left (back3 c) (from-4 (back3 c))
+past-3 c = past-2 (c .before .before .before) ∙ test-next _ _ _ _ _ (purpose-right c)
+
+past-4 : (c : tie.Else4) → Left (back4 c) (from-5 (back4 c))
+past-4 c = past-3 (c .before .before .before) ∙ test-next _ _ _ _ _ (ties-right c)
+
+past-5 : (c : tie.Else5) → Left (back5 c) (from-6 (back5 c))
+past-5 c = past-4 (c .before .before .before) ∙ test-next _ _ _ _ _ (joints-right c)
+
+past-6 : (c : tie.Else6) → Left (back6 c) (parts (back6 c))
+past-6 c = past-5 (c .before .before) ∙ test-next _ _ _ _ _ (count-right c)
+
 header : (c : tie.Else1) → 6 ≤ length (bytes c)
 header c = laws.length-right (bytes c) (length-right c) .0
 
@@ -69,30 +117,23 @@ length-fits-requires c κs = search needs
 
 returns : tie.Need-returns
 unfolding packetReply
-returns c =
-    simp (sym (c .before .length-fits .ensures) ∙ not-true _ (c .if1 .taken))
+returns c = sym (test-here _ _ _ _ _ (sym (c .before .length-fits .ensures) ∙ not-true _ (c .if1 .taken)))
 
 byte-at-requires : tie.Need-byte-at-requires
 byte-at-requires c κs = omega (arith, header c)
 
 returns-2 : tie.Need-returns-2
 unfolding packetReply
-returns-2 c =
-    let e1 = c .before .before in
-    simp (length-right e1, ne-eqb _ _ (λ e. c .if2 .taken (c .before .byte-at .ensures .0 ∙ e)))
+returns-2 c = sym (past-1 (c .before .before)
+    ∙ test-here _ _ _ _ _ (ne-eqb _ _ (λ e. c .if2 .taken (c .before .byte-at .ensures .0 ∙ e))))
 
 byte-at-requires-2 : tie.Need-byte-at-requires-2
 byte-at-requires-2 c κs = omega (arith, header (back2 c))
 
 returns-3 : tie.Need-returns-3
 unfolding packetReply
-returns-3 c =
-    let e2 = c .before .before .before in
-    simp (
-      length-right (back2 e2),
-      version-right e2,
-      ne-eqb _ _ (λ e. c .if3 .taken (c .before .before .byte-at2 .ensures .0 ∙ e)),
-    )
+returns-3 c = sym (past-2 (c .before .before .before)
+    ∙ test-here _ _ _ _ _ (ne-eqb _ _ (λ e. c .if3 .taken (c .before .before .byte-at2 .ensures .0 ∙ e))))
 
 byte-at-requires-3 : tie.Need-byte-at-requires-3
 byte-at-requires-3 c κs = omega (arith, header (back3 c))
@@ -102,15 +143,9 @@ is-within-requires c κs = search needs
 
 returns-4 : tie.Need-returns-4
 unfolding packetReply
-returns-4 c =
-    let e3 = c .before .before .before in
-    let e2 = e3 .before .before .before in
-    simp (
-      length-right (back2 e2),
-      version-right e2,
-      purpose-right e3,
-      rw (c .before .before .byte-at3 .ensures .0) at (sym (c .before .is-within .ensures) ∙ not-true _ (c .if4 .taken)),
-    )
+returns-4 c = sym (past-3 (c .before .before .before)
+    ∙ test-here _ _ _ _ _
+    (rw (c .before .before .byte-at3 .ensures .0) at (sym (c .before .is-within .ensures) ∙ not-true _ (c .if4 .taken))))
 
 byte-at-requires-4 : tie.Need-byte-at-requires-4
 byte-at-requires-4 c κs = omega (arith, header (back4 c))
@@ -120,85 +155,34 @@ is-within-requires-2 c κs = search needs
 
 returns-5 : tie.Need-returns-5
 unfolding packetReply
-returns-5 c =
-    let e4 = c .before .before .before in
-    let e3 = e4 .before .before .before in
-    let e2 = e3 .before .before .before in
-    simp (
-      length-right (back2 e2),
-      version-right e2,
-      purpose-right e3,
-      ties-right e4,
-      rw (c .before .before .byte-at4 .ensures .0) at (sym (c .before .is-within2 .ensures) ∙ not-true _ (c .if5 .taken)),
-    )
+returns-5 c = sym (past-4 (c .before .before .before)
+    ∙ test-here _ _ _ _ _
+    (rw (c .before .before .byte-at4 .ensures .0) at (sym (c .before .is-within2 .ensures) ∙ not-true _ (c .if5 .taken))))
 
 count-fits-requires : tie.Need-count-fits-requires
 count-fits-requires c κs = header (back5 c)
 
 returns-6 : tie.Need-returns-6
 unfolding packetReply
-returns-6 c =
-    let e5 = c .before .before in
-    let e4 = e5 .before .before .before in
-    let e3 = e4 .before .before .before in
-    let e2 = e3 .before .before .before in
-    simp (
-      length-right (back2 e2),
-      version-right e2,
-      purpose-right e3,
-      ties-right e4,
-      joints-right e5,
-      sym (c .before .count-fits .ensures) ∙ not-true _ (c .if6 .taken),
-    )
+returns-6 c = sym (past-5 (c .before .before)
+    ∙ test-here _ _ _ _ _ (sym (c .before .count-fits .ensures) ∙ not-true _ (c .if6 .taken)))
 
 first-bad-tie-requires : tie.Need-first-bad-tie-requires
 first-bad-tie-requires c κs = let w = all-inside c in (w .header, omega arith)
 
-is-refusal-requires : tie.Need-is-refusal-requires
-is-refusal-requires c κs = search needs
+first-bad-fact-requires : tie.Need-first-bad-fact-requires
+first-bad-fact-requires c κs = all-inside (c .before)
+
+first-of-requires : tie.Need-first-of-requires
+first-of-requires c κs = search needs
 
 returns-7 : tie.Need-returns-7
 unfolding packetReply
 returns-7 c =
     let e6 = c .before .before .before in
-    let e5 = e6 .before .before in
-    let e4 = e5 .before .before .before in
-    let e3 = e4 .before .before .before in
-    let e2 = e3 .before .before .before in
-    simp (
-      length-right (back2 e2),
-      version-right e2,
-      purpose-right e3,
-      ties-right e4,
-      joints-right e5,
-      count-right e6,
-      sym (c .before .before .first-bad-tie .ensures),
-    )
-    (sym (or-first (c .before .before .first-bad-tie .result) _ (sym (c .before .is-refusal .ensures) ∙ c .if7 .taken)))
-
-first-bad-fact-requires : tie.Need-first-bad-fact-requires
-first-bad-fact-requires c κs = all-inside (c .before .before .before)
-
-returns-8 : tie.Need-returns-8
-unfolding packetReply
-returns-8 c =
-    let ties = c .before .before .before .first-bad-tie .result in
-    let e6 = c .before .before .before .before in
-    let e5 = e6 .before .before in
-    let e4 = e5 .before .before .before in
-    let e3 = e4 .before .before .before in
-    let e2 = e3 .before .before .before in
-    simp (
-      length-right (back2 e2),
-      version-right e2,
-      purpose-right e3,
-      ties-right e4,
-      joints-right e5,
-      count-right e6,
-      sym (c .before .before .before .first-bad-tie .ensures),
-    )
-    (c .first-bad-fact .ensures
-    ∙ sym (or-second ties _ (sym (c .before .before .is-refusal .ensures) ∙ c .before .if7 .left)))
+    c .first-of .ensures
+    ∙ ap₂ (λ (ties facts : Reply). firstRefusal (ties ∷ []) facts) (c .before .before .first-bad-tie .ensures) (c .before .first-bad-fact .ensures)
+    ∙ sym (past-6 e6)
 
 pub packet-reply-spec : {M : Type 1} → statement M
 packet-reply-spec =
@@ -219,7 +203,6 @@ packet-reply-spec =
     count-fits-requires
     returns-6
     first-bad-tie-requires
-    is-refusal-requires
-    returns-7
     first-bad-fact-requires
-    returns-8)
+    first-of-requires
+    returns-7)

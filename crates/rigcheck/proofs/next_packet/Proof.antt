@@ -1,5 +1,4 @@
--- `rigcheck::next_packet` meets its contract: a packet that is read on is not too long, its two bytes of L stay as they were judged, and its
--- line fits.
+-- `rigcheck::next_packet` is safe: a packet that is read on is not too long, and its line fits.
 -- Assumes nothing.
 use mathlib.Core.Path.{_≡_, sym, _∙_}
 use Prim.Native.Nat.{ℕ, _≤_}
@@ -8,7 +7,7 @@ use lib.ListN.{length}
 use Rattle.rigcheck.specs.declared.Step.the-variants.{Packet}
 use Rattle.rigcheck.specs.Lines.{longest}
 use Rattle.rigcheck.proofs.Fits.{turn-fits}
-use Rattle.rigcheck.proofs.Steps.{packet-short, turned}
+use Rattle.rigcheck.proofs.Steps.{packet-short}
 use borrow.Author.Needs.{needs}
 use Rattle.rigcheck.proofs.next_packet.Statement.{statement}
 use Rattle.rigcheck.proofs.next_packet.Tie as tie
@@ -50,14 +49,7 @@ same-length : tie.Need-same-length
 same-length c = search needs
 
 returns : tie.Need-returns
-returns c =
-    let judged = c .before .before .before .before .before .before .before .before .before in
-    let read = c .before .before .before .before .before .before .before in
-    turned (judged .before .before .read-to .result) (judged .before .before .read-to .last .0) (read .read-rest .last .0)
-    (judged .next-step .ensures)
-    (read .read-rest .ensures)
-    (c .before .before .before .before .told .ensures)
-    (c .goes-on .ensures)
+returns c = search needs
 
 pub next-packet-spec : {M : Type 1} → statement M
 next-packet-spec =

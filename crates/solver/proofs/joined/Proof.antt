@@ -2,7 +2,7 @@
 -- Assumes nothing.
 use mathlib.Core.Path.{_≡_}
 use lib.ListN.{length, replicate, getD-replicate}
-use Rattle.solver.proofs.Parts.{joined-parts}
+use Rattle.solver.proofs.Stores.{joined-parts}
 use borrow.Author.Needs.{needs}
 use borrow.Author.Needs.{needs}
 use Rattle.solver.proofs.joined.Statement.{statement}

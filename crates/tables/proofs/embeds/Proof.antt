@@ -1,4 +1,4 @@
--- `tables::embeds` meets its contract. The loop's invariant: the pairs of the rows passed are embedded, by the marks as they are.
+-- `tables::embeds` meets its contract. The loop's invariant: the pairs of the rows passed are embedded, by the masks as they are.
 -- Assumes nothing.
 use mathlib.Core.Bool.{false≢true}
 use Prim.Native.Nat.{ℕ, _-_, _≤_, _<_}
@@ -6,7 +6,7 @@ use native.Mathlib.Omega.{arith}
 use borrow.Author.Tests.{not-false}
 use borrow.Author.Needs.{needs}
 use borrow.Author.Count.{below-none, below-more}
-use Rattle.tables.specs.Marks.{Embedded}
+use Rattle.tables.specs.Masks.{Embedded}
 use Rattle.tables.proofs.Embedding.{embedded-passes}
 use Rattle.tables.proofs.embeds.Statement.{statement}
 use Rattle.tables.proofs.embeds.Tie as tie
@@ -17,8 +17,8 @@ Inv-loop table n all i₀ i = (i ≤ n) × ((k : ℕ) → k < i → (j : ℕ) �
 abbrev μ-loop : tie.MeasureT-loop
 μ-loop table n all i₀ i = n - i
 
-marks-requires : tie.Need-marks-requires Inv-loop μ-loop
-marks-requires c κs = c .before .pre
+masks-requires : tie.Need-masks-requires Inv-loop μ-loop
+masks-requires c κs = c .before .pre
 
 loop-holds : tie.Need-loop-holds Inv-loop μ-loop
 loop-holds c = (omega arith, below-none _)
@@ -53,7 +53,7 @@ embeds-spec =
     (tie.spec
     Inv-loop
     μ-loop
-    marks-requires
+    masks-requires
     loop-holds
     slice-aggregate-row-embeds
     row-embeds-requires

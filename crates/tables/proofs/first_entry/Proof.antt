@@ -37,8 +37,8 @@ shared-slice-read-wide c = omega (arith, c .before .before .before .before .befo
 wide-requires : tie.Need-wide-requires Inv-loop μ-loop Inv-entries μ-entries
 wide-requires c κs = tt
 
-cast-t10 : tie.Need-cast-t10 Inv-loop μ-loop Inv-entries μ-entries
-cast-t10 c = omega (arith, square-le (c .before .before .before .before .before .before .before .pre .high))
+cast-t11 : tie.Need-cast-t11 Inv-loop μ-loop Inv-entries μ-entries
+cast-t11 c = omega (arith, square-le (c .before .before .before .before .before .before .before .pre .high))
 
 add-p : tie.Need-add-p Inv-loop μ-loop Inv-entries μ-entries
 add-p c = omega arith
@@ -73,7 +73,7 @@ first-entry-spec =
     loop-holds
     shared-slice-read-wide
     wide-requires
-    cast-t10
+    cast-t11
     add-p
     loop-less
     loop-again

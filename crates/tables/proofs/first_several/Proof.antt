@@ -1,4 +1,4 @@
--- `tables::first_several` meets its contract: nothing is broken where the marks show it, and else the two parts of the order are looked at.
+-- `tables::first_several` meets its contract: nothing is broken where the masks show it, and else the two parts of the order are looked at.
 -- Assumes nothing.
 use mathlib.Core.Path.{_∙_, sym}
 use Rattle.tables.specs.Check.{pairs}

@@ -10,9 +10,9 @@ use borrow.Author.Needs.{needs}
 use Rattle.tables.proofs.pair_embeds.Statement.{statement}
 use Rattle.tables.proofs.pair_embeds.Tie as tie
 
--- the mark of m, read at r, which is m
-common-read : (marks : List ℕ) {r m x : ℕ} → r ≡ m → getD marks r 0 ≡ x → getD marks m 0 ≡ x
-common-read marks e h = ap (λ (k : ℕ). getD marks k 0) (sym e) ∙ h
+-- the mask of m, read at r, which is m
+common-read : (masks : List ℕ) {r m x : ℕ} → r ≡ m → getD masks r 0 ≡ x → getD masks m 0 ≡ x
+common-read masks e h = ap (λ (k : ℕ). getD masks k 0) (sym e) ∙ h
 
 mul-a : tie.Need-mul-a
 mul-a c = search needs

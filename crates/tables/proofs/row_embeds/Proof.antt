@@ -5,7 +5,7 @@ use Prim.Native.Nat.{ℕ, _-_, _≤_, _<_}
 use native.Mathlib.Omega.{arith}
 use borrow.Author.Tests.{not-false}
 use borrow.Author.Count.{below-none, below-more}
-use Rattle.tables.specs.Marks.{Embedded}
+use Rattle.tables.specs.Masks.{Embedded}
 use Rattle.tables.proofs.row_embeds.Statement.{statement}
 use Rattle.tables.proofs.row_embeds.Tie as tie
 

@@ -1,6 +1,6 @@
 -- `vornulica::rig_ask` meets its contract: the reply of asking, packed; a verdict is 1 to 3.
 -- Assumes nothing.
-use Rattle.session.proofs.Thirds.{ask-third}
+use Rattle.vornulica.proofs.Thirds.{ask-third}
 use borrow.Author.Needs.{needs}
 use Rattle.vornulica.proofs.rig_ask.Statement.{statement}
 use Rattle.vornulica.proofs.rig_ask.Tie as tie

@@ -2,7 +2,8 @@
 -- Assumes nothing.
 use mathlib.Core.Path.{_∙_, ap}
 use Rattle.replies.specs.Replies.{packed, third}
-use Rattle.session.proofs.Thirds.{small, open-third}
+use Rattle.opening.proofs.Opening.{open-third}
+use Rattle.vornulica.proofs.Thirds.{small}
 use borrow.Author.Needs.{needs}
 use Rattle.vornulica.proofs.rig_open.Statement.{statement}
 use Rattle.vornulica.proofs.rig_open.Tie as tie

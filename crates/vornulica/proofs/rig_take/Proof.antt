@@ -1,6 +1,6 @@
 -- `vornulica::rig_take` meets its contract: the reply of taking, packed; at most 63 joins.
 -- Assumes nothing.
-use Rattle.session.proofs.Thirds.{take-third}
+use Rattle.vornulica.proofs.Thirds.{take-third}
 use borrow.Author.Needs.{needs}
 use Rattle.vornulica.proofs.rig_take.Statement.{statement}
 use Rattle.vornulica.proofs.rig_take.Tie as tie

@@ -3,7 +3,7 @@
 use mathlib.Core.Path.{sym, _∙_, ap}
 use Prim.Native.Nat.{_^_, _<_}
 use Rattle.replies.specs.Replies.{packed, third}
-use Rattle.session.proofs.Thirds.{write-third}
+use Rattle.writing.proofs.Writing.{write-third}
 use borrow.Author.Needs.{needs}
 use Rattle.vornulica.proofs.rig_write.Statement.{statement}
 use Rattle.vornulica.proofs.rig_write.Tie as tie

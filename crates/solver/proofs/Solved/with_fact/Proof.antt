@@ -1,12 +1,12 @@
 -- `with_fact` meets its contract: the kind stored is the meet, and the fact clashes exactly where that is 0; where two nodes are one already
--- the fact says nothing new, and else `settled` takes it; a link not known is set, and the end of a known one is made one with y.
+-- the fact says nothing new, and else `with_same` takes it; a link not known is set, and the end of a known one is made one with y.
 -- Assumes nothing.
 use mathlib.Core.Path.{_≡_, sym, _∙_}
 use lib.ListN.{length}
 use native.Mathlib.Omega.{arith}
 use Rattle.solver.proofs.Join.{class-of}
 use Rattle.solver.proofs.Sets.{kind-taken, kind-refuted, same-already, link-taken, known-taken, known-refuted, end-inside}
-use Rattle.solver.proofs.Parts.{kind-parts, link-parts, class-inside}
+use Rattle.solver.proofs.Stores.{kind-parts, link-parts, class-inside}
 use Rattle.solver.proofs.Takes.{took-taken, took-refuted}
 use borrow.Author.Needs.{needs}
 use Rattle.solver.proofs.Solved.with_fact.Statement.{statement}
@@ -116,8 +116,8 @@ returns-3 c =
     let r = rw (f .fact2 .given .1) at (p .1) in
     rw (f .fact2 .given .1) (took-taken _ _ (same-already (p .0 .well) (r .0) (r .1) (c .if2 .taken)))
 
-settled-requires : tie.Need-settled-requires
-settled-requires c κs =
+with-same-requires : tie.Need-with-same-requires
+with-same-requires c κs =
     let f = c .before .before .before .before in
     let p = f .before .before .before .pre in
     let r = rw (f .fact2 .given .1) at (p .1) in
@@ -126,7 +126,7 @@ settled-requires c κs =
 returns-4 : tie.Need-returns-4
 returns-4 c =
     let f = c .before .before .before .before .before .before in
-    rw (f .fact2 .given .1) (c .before .settled .ensures)
+    rw (f .fact2 .given .1) (c .before .with-same .ensures)
 
 enum-known-fact-3 : tie.Need-enum-known-fact-3
 enum-known-fact-3 c = search needs
@@ -219,8 +219,8 @@ returns-6 c =
     (known-taken w (r .0) (r .1) known
     (same-already w (end-inside w (class-of w _ (r .0)) (r .1) known) (r .2) (c .if4 .taken))))
 
-settled-requires-2 : tie.Need-settled-requires-2
-settled-requires-2 c κs =
+with-same-requires-2 : tie.Need-with-same-requires-2
+with-same-requires-2 c κs =
     let f = c .before .before .before .before .before .before .before in
     let p = f .before .before .before .pre in
     let r = rw (f .fact3 .given .1) at (p .1) in
@@ -234,7 +234,7 @@ returns-7 c =
     let r = rw (f .fact3 .given .1) at (p .1) in
     let w = p .0 .well in
     let known = e .before .before .if3 .left in
-    let t = c .before .settled2 .ensures in
+    let t = c .before .with-same2 .ensures in
     rw (f .fact3 .given .1)
     (record {
       taken = λ z. known-taken w (r .0) (r .1) known (t .taken z);
@@ -263,7 +263,7 @@ with-fact-spec =
     cast-if2-2
     element-copy-out-if2-2
     returns-3
-    settled-requires
+    with-same-requires
     returns-4
     enum-known-fact-3
     cast-a-2
@@ -280,5 +280,5 @@ with-fact-spec =
     cast-if4
     element-copy-out-if4
     returns-6
-    settled-requires-2
+    with-same-requires-2
     returns-7)

@@ -1,0 +1,36 @@
+-- What a call rests on, beside the facts themselves: the kinds with their table, the joints, and which pictures count. Clash, meaning and
+-- verdicts are stated over it.
+-- Assumes nothing.
+use mathlib.Core.Logic.{_↔_}
+use mathlib.Core.List.{List}
+use Prim.Native.Nat.{ℕ}
+use Rattle.kinds.specs.Kinds.{meetAt}
+use Rattle.meaning.specs.Picture.{Picture, Placing, Fact, All}
+
+-- the pictures that count: every one
+pub data Profile : Type 0 where
+  every : Profile
+
+pub record Rig : Type 0 where
+  -- n, and the n × n bytes of the kind table
+  pub kinds : ℕ
+  pub table : List ℕ
+  -- V
+  pub joints : ℕ
+  pub profile : Profile
+
+abbrev pub meetOf : Rig → ℕ → ℕ → ℕ
+meetOf R = meetAt (R .kinds) (R .table)
+
+abbrev pub Counts : Profile → {n : ℕ} → Picture n → Type 0
+Counts every P = Unit {0}
+
+module _ (R : Rig) {J : Type 0} where
+  -- no picture and placing satisfy the facts
+  abbrev pub NoPicture : List (Fact J) → Type 0
+  NoPicture fs = (P : Picture (R .kinds)) (σ : J → ℕ) → Counts (R .profile) P → Placing P σ → All (meetOf R) P σ fs → ⊥
+
+  -- exactly the same pictures and placings satisfy both
+  abbrev pub SameMeaning : List (Fact J) → List (Fact J) → Type 0
+  SameMeaning fs gs =
+      (P : Picture (R .kinds)) (σ : J → ℕ) → Counts (R .profile) P → Placing P σ → All (meetOf R) P σ fs ↔ All (meetOf R) P σ gs

@@ -1,0 +1,3 @@
+pub mod RulePacket
+pub mod Reached
+pub mod Marking

@@ -1,0 +1,31 @@
+-- A run of zeros: every place of it is 0, and the other way round.
+-- Assumes nothing.
+use mathlib.Core.Path.{_≡_, refl, sym, _∙_}
+use mathlib.Core.Bool.{Bool, true, false, _&&_, false≢true}
+use mathlib.Core.List.{List, [], _∷_}
+use Prim.Native.Nat.{ℕ, zero, suc, _<_}
+use native.Mathlib.Omega.{arith}
+use lib.Dec.{eqb}
+use lib.ListN.{length, getD, replicate}
+use borrow.Author.Tests.{eqb-true, eq-eqb}
+use Rattle.runs.specs.Runs.{allZero}
+
+both : (a b : Bool) → (a && b) ≡ true → (a ≡ true) × (b ≡ true)
+both true b e = (refl, e)
+both false b e = absurd (false≢true e)
+
+pub zero-at : (xs : List ℕ) → allZero xs ≡ true → (i : ℕ) → getD xs i 0 ≡ 0
+unfolding allZero
+zero-at [] e i = refl
+zero-at (x ∷ xs) e zero = eqb-true x 0 (both (eqb x 0) (allZero xs) e .0)
+zero-at (x ∷ xs) e (suc i) = zero-at xs (both (eqb x 0) (allZero xs) e .1) i
+
+pub all-zero : (xs : List ℕ) → ((i : ℕ) → getD xs i 0 ≡ 0) → allZero xs ≡ true
+unfolding allZero
+all-zero [] h = refl
+all-zero (x ∷ xs) h = rw (eq-eqb x 0 (h 0), all-zero xs (λ i. h (suc i)))
+
+pub zeros-at : (m i : ℕ) → _≡_ {A = ℕ} (getD (replicate m 0) i 0) 0
+zeros-at zero i = refl
+zeros-at (suc m) zero = refl
+zeros-at (suc m) (suc i) = zeros-at m i

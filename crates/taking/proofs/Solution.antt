@@ -1,0 +1,107 @@
+-- The solver's answer to a packet, as the answer of taking: a clash where no picture is left, otherwise the block with the next form in
+-- it, whose classes are no more than before.
+-- Assumes nothing.
+use mathlib.Core.Path.{_≡_, sym, _∙_, ap}
+use mathlib.Core.Bool.{true, false, true≢false, false≢true}
+use mathlib.Core.List.{List, _++_, map}
+use Prim.Native.Nat.{ℕ, _-_, _≤_}
+use native.Mathlib.Omega.{arith}
+use lib.ListN.{length}
+use Rattle.meaning.specs.declared.RigJoint.{RigJoint}
+use Rattle.meaning.specs.Picture.{Fact, rename}
+use Rattle.meaning.specs.Form.{Form, listForm, takenFacts, classes}
+use Rattle.meaning.specs.Rig.{Rig, meetOf, NoPicture, SameMeaning}
+use Rattle.meaning.specs.Solving.{rigNumber, Taken, Refuted}
+use Rattle.meaning.specs.Asking.{Extends}
+use Rattle.meaning.proofs.SameForm.{SameForm, form-well, form-models, form-facts, form-classes, unpacked-same}
+use Rattle.meaning.proofs.Classes.{fewer-classes}
+use Rattle.meaning.proofs.Takes.{taken-means, refuted-clash}
+use Rattle.packets.specs.Facts.{rigFacts}
+use Rattle.solver.specs.declared.Solved.{Solved}
+use Rattle.solver.specs.Unpacked.{Ready, formOf}
+use Rattle.blocks.specs.Layout.{kindsOf, jointsOf, tableOf, blockForm, rigOf, taken, classCount}
+use Rattle.blocks.specs.Storing.{withForm}
+use Rattle.blocks.proofs.Shape.{GoodBlock, put-together, block-rig, block-sized}
+use Rattle.blocks.proofs.Bytes.{with-rig, stored-form, stored-good}
+use Rattle.taking.specs.Take.{After}
+use Rattle.taking.specs.Solve.{Solves}
+
+module _ {b : List ℕ} (g : GoodBlock b) {E : Form} (x : Extends (jointsOf b) 0 (blockForm b) E) where
+  same : SameForm (blockForm b) E
+  same = unpacked-same (g .well .well) x
+
+  pub unpacked-ready : Ready (kindsOf b) (jointsOf b) (tableOf b) E
+  unpacked-ready =
+      let rig = block-rig (g .well) in
+      record {
+        two = rig .two;
+        kinds = g .well .n-high;
+        size = block-sized (g .well) (g .size) .size;
+        lawful = rig .lawful;
+        nodes = omega (arith, g .well .v-high);
+        well = form-well same (g .well .well);
+      }
+
+  pub unpacked-classes : classes E (jointsOf b) ≡ classCount b
+  unpacked-classes = sym (form-classes same (jointsOf b))
+
+  module _ (facts : List (Fact RigJoint)) where
+    pub refuted-answer : Refuted (kindsOf b) (meetOf (rigOf b)) (jointsOf b) E (map (rename rigNumber) facts) → NoPicture (rigOf b) (taken b ++ facts)
+    refuted-answer r =
+        refuted-clash (block-rig (g .well)) (blockForm b) facts (λ P σ placed m a. r P σ placed (form-models same .0 m) a)
+
+    module _ {T : Form} (t : Taken (kindsOf b) (meetOf (rigOf b)) (jointsOf b) E (map (rename rigNumber) facts) T) where
+      from-block : Taken (kindsOf b) (meetOf (rigOf b)) (jointsOf b) (blockForm b) (map (rename rigNumber) facts) T
+      from-block =
+          record {
+            well = t .well;
+            means = λ P σ placed. (
+              λ m. let z = t .means P σ placed .0 m in (form-models same .1 (z .0), z .1),
+              λ z. t .means P σ placed .1 (form-models same .0 (z .0), z .1),
+            );
+          }
+
+      pub taken-fewer : classes T (jointsOf b) ≤ classes E (jointsOf b)
+      taken-fewer = let rig = block-rig (g .well) in fewer-classes (rig .lawful) (rig .some) (form-well same (g .well .well)) t
+
+    module _ (c k r : List ℕ) (lc : length c ≡ 96) (lk : length k ≡ 96) (lr : length r ≡ 1536)
+        (t : Taken (kindsOf b) (meetOf (rigOf b)) (jointsOf b) E (map (rename rigNumber) facts) (listForm c k r)) where
+      rig-stays : rigOf (withForm b c k r) ≡ rigOf b
+      rig-stays = with-rig b c k r (g .size) (omega arith) (omega arith) (omega arith)
+
+      form-stored : SameForm (blockForm (withForm b c k r)) (listForm c k r)
+      form-stored = stored-form g c k r (omega arith) (omega arith) (omega arith) (t .well)
+
+      pub taken-after : After b facts (withForm b c k r)
+      taken-after =
+          let good = stored-good g c k r (omega arith) (omega arith) (omega arith) (t .well) in
+          record {
+            stands = record { size = good .size; well = put-together (withForm b c k r) (good .well); rig = rig-stays };
+            means = rw after-facts (taken-means (block-rig (g .well)) (blockForm b) facts (from-block t));
+          }
+        where
+          after-facts : taken (withForm b c k r) ≡ takenFacts (jointsOf b) (listForm c k r)
+          after-facts =
+              ap (λ (R : Rig). takenFacts (R .joints) (blockForm (withForm b c k r))) rig-stays ∙ form-facts form-stored (jointsOf b)
+
+      pub taken-classes : classes (listForm c k r) (jointsOf b) ≡ classCount (withForm b c k r)
+      taken-classes =
+          sym (form-classes form-stored (jointsOf b)) ∙ ap (λ (R : Rig). classes (blockForm (withForm b c k r)) (R .joints)) (sym rig-stays)
+
+-- the solver's answer with its count of classes, as the outcome of the packet p
+module _ {b p : List ℕ} (g : GoodBlock b) (start form : Solved) (x : Extends (jointsOf b) 0 (blockForm b) (formOf start)) where
+  pub clash-outcome : (joins : ℕ) → Refuted (kindsOf b) (meetOf (rigOf b)) (jointsOf b) (formOf start) (map (rename rigNumber) (rigFacts p)) → Solves b p true joins form
+  clash-outcome joins r =
+      record { no-picture = λ _. refuted-answer g x (rigFacts p) r; after = λ e. absurd (true≢false e); count = λ e. absurd (true≢false e) }
+
+  pub done-outcome :
+      length (form .class) ≡ 96 → length (form .kind) ≡ 96 → length (form .link) ≡ 1536
+      → Taken (kindsOf b) (meetOf (rigOf b)) (jointsOf b) (formOf start) (map (rename rigNumber) (rigFacts p)) (formOf form)
+      → (before after : ℕ) → before ≡ classes (formOf start) (jointsOf b) → after ≡ classes (formOf form) (jointsOf b)
+      → Solves b p false (before - after) form
+  done-outcome lc lk lr t before after eb ea =
+      record {
+        no-picture = λ e. absurd (false≢true e);
+        after = λ _. taken-after g x (rigFacts p) (form .class) (form .kind) (form .link) lc lk lr t;
+        count = λ _. cc (unpacked-classes g x, taken-classes g x (rigFacts p) (form .class) (form .kind) (form .link) lc lk lr t);
+      }

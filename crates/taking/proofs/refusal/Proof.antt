@@ -1,0 +1,70 @@
+-- `taking::refusal` meets its contract: the reply to the block, and where that does not refuse the reply to the packet.
+-- Assumes nothing.
+use mathlib.Core.Path.{_≡_, sym, ap, ap₂, _∙_}
+use mathlib.Core.Bool.{false}
+use Prim.Native.Nat.{ℕ}
+use native.Mathlib.Omega.{arith}
+use Rattle.replies.specs.Replies.{refuses}
+use Rattle.replies.proofs.Laws.{tested}
+use Rattle.packets.specs.Packet.{packetReply, factsWanted}
+use Rattle.blocks.specs.WellFormed.{blockReply}
+use Rattle.blocks.proofs.Shape.{GoodBlock, good-block}
+use Rattle.taking.proofs.Taking.{block-refuses, packet-decides}
+use borrow.Author.Needs.{needs}
+use Rattle.taking.proofs.refusal.Statement.{statement}
+use Rattle.taking.proofs.refusal.Tie as tie
+
+-- the block is not refused
+not-refused : (c : tie.Else1) → refuses (blockReply (c .before .before .before .before .before .args .block .now)) ≡ false
+not-refused c = tested (c .before .before .block-reply .ensures) (c .before .is-refusal .ensures) (c .if1 .left)
+
+good : (c : tie.Else1) → GoodBlock (c .before .before .before .before .before .args .block .now)
+good c = good-block _ (not-refused c)
+
+block-reply-requires : tie.Need-block-reply-requires
+block-reply-requires c κs = search needs
+
+is-refusal-requires : tie.Need-is-refusal-requires
+is-refusal-requires c κs = search needs
+
+returns : tie.Need-returns
+returns c =
+    let e = c .before .before .block-reply .ensures in
+    e ∙ sym (block-refuses _ _ (tested e (c .before .is-refusal .ensures) (c .if1 .taken)))
+
+kind-count-requires : tie.Need-kind-count-requires
+kind-count-requires c κs = omega (arith, good c .size)
+
+cast-facts-reply : tie.Need-cast-facts-reply
+cast-facts-reply c = search needs
+
+joint-count-requires : tie.Need-joint-count-requires
+joint-count-requires c κs = omega (arith, good (c .before) .size)
+
+cast-facts-reply-2 : tie.Need-cast-facts-reply-2
+cast-facts-reply-2 c = search needs
+
+facts-reply-requires : tie.Need-facts-reply-requires
+facts-reply-requires c κs = search needs
+
+returns-2 : tie.Need-returns-2
+returns-2 c =
+    let e = c .before .before .before in
+    let p = e .before .before .before .before .before .args .packet .now in
+    c .facts-reply .ensures
+    ∙ ap₂ (λ (n v : ℕ). packetReply (factsWanted v) n v p) (c .before .before .kind-count .ensures) (c .before .joint-count .ensures)
+    ∙ sym (packet-decides _ _ (not-refused e))
+
+pub refusal-spec : {M : Type 1} → statement M
+refusal-spec =
+    tie.close
+    (tie.spec
+    block-reply-requires
+    is-refusal-requires
+    returns
+    kind-count-requires
+    cast-facts-reply
+    joint-count-requires
+    cast-facts-reply-2
+    facts-reply-requires
+    returns-2)

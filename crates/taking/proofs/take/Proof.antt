@@ -1,0 +1,60 @@
+-- `taking::take` meets its contract: refused, or what the solver makes of the packet, stored and told.
+-- Assumes nothing.
+use mathlib.Core.Path.{_≡_, refl}
+use Rattle.replies.proofs.Laws.{tested}
+use Rattle.replies.specs.declared.Reply.the-variants.{Done}
+use Rattle.taking.specs.Take.{takeRefusal}
+use Rattle.taking.specs.Take.Take.{refused}
+use Rattle.taking.proofs.Taking.{take-goes-on, taken-good, take-ends}
+use borrow.Author.Needs.{needs}
+use Rattle.taking.proofs.take.Statement.{statement}
+use Rattle.taking.proofs.take.Tie as tie
+
+-- none of 1 to 9 fits
+goes-on : (c : tie.Else1) → let a = c .before .before .before .before .before .before .args in takeRefusal (a .block .now) (a .packet .now) ≡ Done 0
+goes-on c = take-goes-on _ _ (tested (c .before .before .refusal .ensures) (c .before .is-refusal .ensures) (c .if1 .left))
+
+refusal-requires : tie.Need-refusal-requires
+refusal-requires c κs = search needs
+
+is-refusal-requires : tie.Need-is-refusal-requires
+is-refusal-requires c κs = search needs
+
+same-length : tie.Need-same-length
+same-length c = search needs
+
+returns : tie.Need-returns
+returns c = refused (tested (c .before .before .refusal .ensures) (c .before .is-refusal .ensures) (c .if1 .taken)) (c .before .before .refusal .ensures) refl
+
+solve-requires : tie.Need-solve-requires
+solve-requires c κs = goes-on (c .before)
+
+store-requires : tie.Need-store-requires
+store-requires c κs =
+    taken-good _ _ (goes-on (c .before .before .before .before)) .0 .size
+
+told-requires : tie.Need-told-requires
+told-requires c κs = search needs
+
+same-length-2 : tie.Need-same-length-2
+same-length-2 c = search needs
+
+returns-2 : tie.Need-returns-2
+returns-2 c =
+    let stored = c .before .before .before in
+    let solved = stored .before .before .before in
+    take-ends _ (goes-on (solved .before .before)) (solved .solve .ensures) (stored .store .ensures) (c .told .ensures)
+
+pub take-spec : {M : Type 1} → statement M
+take-spec =
+    tie.close
+    (tie.spec
+    refusal-requires
+    is-refusal-requires
+    same-length
+    returns
+    solve-requires
+    store-requires
+    told-requires
+    same-length-2
+    returns-2)

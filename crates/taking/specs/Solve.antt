@@ -1,0 +1,21 @@
+-- What the solver makes of a packet, in the words of the contract of taking. No call cites this.
+-- Assumes nothing.
+use mathlib.Core.Path.{_≡_}
+use mathlib.Core.Bool.{Bool, true, false}
+use mathlib.Core.List.{List, _++_}
+use Prim.Native.Nat.{ℕ, _-_}
+use Rattle.meaning.specs.Rig.{NoPicture}
+use Rattle.packets.specs.Facts.{rigFacts}
+use Rattle.solver.specs.declared.Solved.{Solved}
+use Rattle.blocks.specs.Layout.{rigOf, taken, classCount}
+use Rattle.blocks.specs.Storing.{withForm}
+use Rattle.taking.specs.Take.{After}
+
+-- the block with a form in it
+abbrev pub withSolved : List ℕ → Solved → List ℕ
+withSolved b form = withForm b (form .class) (form .kind) (form .link)
+
+pub record Solves (b p : List ℕ) (clash : Bool) (joins : ℕ) (form : Solved) : Type 0 where
+  pub no-picture : clash ≡ true → NoPicture (rigOf b) (taken b ++ rigFacts p)
+  pub after : clash ≡ false → After b (rigFacts p) (withSolved b form)
+  pub count : clash ≡ false → joins ≡ classCount b - classCount (withSolved b form)

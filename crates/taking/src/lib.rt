@@ -1,0 +1,147 @@
+// Taking a packet of facts: all of them or none.
+ghost use mathlib.Core.Path.{_≡_};
+ghost use mathlib.Core.Bool.{cond};
+ghost use mathlib.Core.List.{map};
+ghost use lib.ListN.{length};
+ghost use Rattle.kinds.specs.Kinds.{meetAt};
+ghost use Rattle.meaning.specs.Picture.{rename};
+ghost use Rattle.meaning.specs.Solving.{rigNumber};
+ghost use Rattle.packets.specs.Packet.{packetReply, factsWanted};
+ghost use Rattle.packets.specs.Facts.{rigFacts};
+ghost use Rattle.packets.specs.Decoding.{rigFact};
+ghost use Rattle.replies.specs.declared.Cause.{Cause};
+ghost use Rattle.replies.specs.declared.Reply.{Reply};
+ghost use Rattle.solver.specs.Unpacked.{formOf, nodeFact, Ready, Folded};
+ghost use Rattle.blocks.specs.Layout.{blockSize};
+ghost use Rattle.taking.specs.Take.{takeRefusal, Take};
+ghost use Rattle.taking.specs.Solve.{withSolved, Solves};
+use meaning::RigFact;
+use replies::Cause;
+use replies::Reply;
+use solver::Fold;
+use solver::NodeFact;
+use solver::Solved;
+
+// What the solver makes of a packet: whether it clashes, and where it does not, the number of joins and the next form.
+pub struct Outcome {
+    pub clash: bool,
+    pub joins: u32,
+    pub form: Solved,
+}
+
+// A fact on rig joints, as one on nodes: rig joint j is node j.
+fn rig_node_fact(fact: RigFact) -> NodeFact
+    ensures { λ r. ⌜ nodeFact r ≡ rename rigNumber (rigFact fact) ⌝ }
+{
+    match fact {
+        RigFact::Kind(a, kind) => NodeFact::Kind(a.0, kind),
+        RigFact::Same(a, b) => NodeFact::Same(a.0, b.0),
+        RigFact::Link(a, link, c) => NodeFact::Link(a.0, link, c.0),
+    }
+}
+
+// The packet's facts taken one after another, until one clashes.
+fn with_facts(start: Solved, table: &[u8], n: usize, v: usize, packet: &[u8]) -> Fold
+    requires { ⌜ Ready n v (now table) (formOf start) ⌝ ∗ ⌜ packetReply (factsWanted v) n v (now packet) ≡ Reply.Done 0 ⌝ }
+    ensures { λ r. ⌜ Folded n (meetAt n (now (table .entry))) v (formOf start) (map (rename rigNumber) (rigFacts (now (packet .entry)))) (r .at) (r .ok) (formOf (r .form)) ⌝ }
+{
+    let mut form = start;
+    let count = packets::fact_count(packet);
+    for i in 0..count {
+        let fact = packets::rig_fact(packet, packets::fact_at(packet, i));
+        let next = form.with_fact(table, n, v, rig_node_fact(fact));
+        if !next.ok {
+            return Fold {
+                form,
+                at: i,
+                ok: false,
+            };
+        }
+        form = next.form;
+    }
+    Fold {
+        form,
+        at: count,
+        ok: true,
+    }
+}
+
+// Replies 1 and 4 to 9; done where none fits.
+fn refusal(block: &[u8], packet: &[u8]) -> Reply
+    ensures { λ r. ⌜ r ≡ takeRefusal (now (block .entry)) (now (packet .entry)) ⌝ }
+{
+    let lent = blocks::block_reply(block);
+    if replies::is_refusal(lent) {
+        return lent;
+    }
+    packets::facts_reply(
+        packet,
+        blocks::kind_count(block) as usize,
+        blocks::joint_count(block) as usize,
+    )
+}
+
+// The packet's facts taken with those of the block.
+fn solve(block: &[u8], packet: &[u8]) -> Outcome
+    requires { ⌜ takeRefusal (now block) (now packet) ≡ Reply.Done 0 ⌝ }
+    ensures { λ r. ⌜ Solves (now (block .entry)) (now (packet .entry)) (r .clash) (r .joins) (r .form) ⌝ }
+{
+    let n = blocks::kind_count(block) as usize;
+    let v = blocks::joint_count(block) as usize;
+    let start = unpacking::unpack(block, v, 0);
+    let end = with_facts(start, blocks::kind_table(block), n, v, packet);
+    let form = end.form;
+    if !end.ok {
+        return Outcome {
+            clash: true,
+            joins: 0,
+            form,
+        };
+    }
+    let joins = solver::classes_in(start, v) - solver::classes_in(form, v);
+    Outcome {
+        clash: false,
+        joins: joins as u32,
+        form,
+    }
+}
+
+// The form stored into the block; where the facts clash, nothing is.
+fn store(block: &mut [u8], form: Solved, clash: bool)
+    requires { ⌜ length (now block) ≡ blockSize ⌝ }
+    ensures { λ _. ⌜ now (block .exit) ≡ cond clash (now (block .entry)) (withSolved (now (block .entry)) form) ⌝ }
+{
+    if clash {
+        return;
+    }
+    let class = form.class;
+    let kind = form.kind;
+    let link = form.link;
+    blocks::store(block, &class, &kind, &link);
+}
+
+// The reply where none of 1 to 9 fits.
+fn told(clash: bool, joins: u32) -> Reply
+    ensures { λ r. ⌜ r ≡ cond clash (Reply.Refused Cause.Clash 0) (Reply.Done joins) ⌝ }
+{
+    if clash {
+        return Reply::Refused(Cause::Clash, 0);
+    }
+    Reply::Done(joins)
+}
+
+// Takes all facts of the packet, or none.
+pub fn take(block: &mut [u8], packet: &[u8]) -> Reply
+    ensures { λ r. ⌜ Take (now (block .entry)) (now (packet .entry)) r (now (block .exit)) ⌝ }
+{
+    let reply = refusal(block, packet);
+    let refused = replies::is_refusal(reply);
+    if refused {
+        return reply;
+    }
+    let outcome = solve(block, packet);
+    let form = outcome.form;
+    let clash = outcome.clash;
+    store(block, form, clash);
+    told(clash, outcome.joins)
+}

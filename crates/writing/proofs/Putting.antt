@@ -1,0 +1,193 @@
+-- Bytes put one after the other, in straight code and in loops that put a part at each turn: what is written, with what is left to put from
+-- here, is what was there with all the bytes. The bytes of a form's facts are taken apart joint by joint and link by link.
+-- Assumes nothing.
+use mathlib.Core.Path.{_≡_, refl, sym, ap, _∙_}
+use mathlib.Core.Bool.{Bool, true, false, cond}
+use mathlib.Core.List.{List, [], _∷_, _++_, append-assoc, append-nil}
+use Prim.Native.Nat.{ℕ, suc, _+_, _-_, _/_, _%_, _<_, _≤_}
+use native.Mathlib.Omega.{arith}
+use native.Mathlib.Numerals.{add-one}
+use lib.Dec.{eqb}
+use lib.ListN.{length, set, take, drop, length-append, length-take, length-drop, length-set}
+use lib.Seq.{sets-eq, take-at, drop-at, take-add, length-take-le}
+use borrow.Author.Tests.{eq-eqb, ne-eqb}
+use Rattle.meaning.specs.declared.RigJoint.{RigJoint}
+use Rattle.meaning.specs.Picture.{Fact, rename}
+use Rattle.meaning.specs.Picture.Fact.{has-kind, leads}
+use Rattle.meaning.specs.Form.{Form, unknown, linksFrom, factsAt, factsFrom, rigJoint}
+use Rattle.packets.specs.FactsPacket.{factBytes, allBytes, lengthOf, factsPacket}
+use Rattle.packets.proofs.FactsPacket.{bytes-four}
+use Rattle.writing.specs.Putting.{Room, Put, formBytes, kindBytes, linkBytes, sameBytes}
+
+-- four bytes stored one after the other
+pub four-put :
+    (s : List ℕ) (at a b c d : ℕ) → at + 4 ≤ length s →
+    Put (a ∷ b ∷ c ∷ d ∷ []) at s (set (set (set (set s at a) (at + 1) b) (at + 2) c) (at + 3) d) (at + 4)
+four-put s at a b c d h =
+    let new = a ∷ b ∷ c ∷ d ∷ [] in
+    let one : at + 1 ≡ suc at = omega arith in
+    let two : at + 2 ≡ suc (suc at) = omega arith in
+    let three : at + 3 ≡ suc (suc (suc at)) = omega arith in
+    let e : set (set (set (set s at a) (at + 1) b) (at + 2) c) (at + 3) d ≡ (take at s ++ new) ++ drop (at + 4) s =
+    rw (one, two, three) (sets-eq new s at h) in
+    record {
+      size = simp length-set;
+      ends = refl;
+      front = ap (take (at + 4)) e ∙ take-at (take at s ++ new) (drop (at + 4) s) (at + 4) (simp (length-append, length-take) (omega arith));
+    }
+
+pub six-put :
+    (s : List ℕ) (a b c d e f : ℕ) → 6 ≤ length s →
+    set (set (set (set (set (set s 0 a) 1 b) 2 c) 3 d) 4 e) 5 f ≡ a ∷ b ∷ c ∷ d ∷ e ∷ f ∷ drop 6 s
+six-put s a b c d e f h = sets-eq (a ∷ b ∷ c ∷ d ∷ e ∷ f ∷ []) s 0 h
+
+pub none-put : (at : ℕ) (s : List ℕ) → Put [] at s s at
+none-put at s = record { size = refl; ends = omega arith; front = sym (append-nil (take at s)) }
+
+-- at `at`, with t written so far: what is left to put makes it s up to `from` and then all the bytes
+pub record Putting (all : List ℕ) (from : ℕ) (s t : List ℕ) (at : ℕ) (left : List ℕ) : Type 0 where
+  pub size : length t ≡ length s
+  pub ends : at + length left ≡ from + length all
+  pub front : take at t ++ left ≡ take from s ++ all
+
+pub put-begins : {all left : List ℕ} (from : ℕ) (s : List ℕ) → all ≡ left → Putting all from s s from left
+put-begins from s e =
+    record { size = refl; ends = ap (λ (l : List ℕ). from + length l) (sym e); front = ap (λ (l : List ℕ). take from s ++ l) (sym e) }
+
+module _ {all s t left : List ℕ} {from at : ℕ} (p : Putting all from s t at left) where
+  -- the next part has room, and is put
+  pub put-room : (new more : List ℕ) → left ≡ new ++ more → Room all from s → Room new at t
+  put-room new more e r = omega (arith, p .size, p .ends, ap length e, length-append new more)
+
+  pub put-goes-on : {new u : List ℕ} {end : ℕ} (more : List ℕ) → left ≡ new ++ more → Put new at t u end → Putting all from s u end more
+  put-goes-on {new} {u} {end} more e q =
+      record {
+        size = q .size ∙ p .size;
+        ends = omega (arith, p .ends, q .ends, ap length e, length-append new more);
+        front =
+            ap (λ (l : List ℕ). l ++ more) (q .front)
+            ∙ append-assoc (take at t) new more
+            ∙ ap (λ (l : List ℕ). take at t ++ l) (sym e)
+            ∙ p .front;
+      }
+
+  pub put-ends : left ≡ [] → Put all from s t at
+  put-ends e =
+      record {
+        size = p .size;
+        ends = omega (arith, p .ends, ap length e);
+        front = sym (append-nil (take at t)) ∙ ap (λ (l : List ℕ). take at t ++ l) (sym e) ∙ p .front;
+      }
+
+bytes-append : (fs gs : List (Fact ℕ)) → formBytes (fs ++ gs) ≡ formBytes fs ++ formBytes gs
+unfolding allBytes
+bytes-append [] gs = refl
+bytes-append (f ∷ fs) gs =
+    ap (λ (l : List ℕ). factBytes (rename rigJoint f) ++ l) (bytes-append fs gs)
+    ∙ sym (append-assoc (factBytes (rename rigJoint f)) (formBytes fs) (formBytes gs))
+
+-- a fact that a test may leave out, and what follows it
+maybe-first : (b : Bool) (f : Fact ℕ) (fs : List (Fact ℕ)) → formBytes (cond b fs (f ∷ fs)) ≡ cond b [] (factBytes (rename rigJoint f)) ++ formBytes fs
+unfolding allBytes
+maybe-first true f fs = refl
+maybe-first false f fs = refl
+
+module _ (S : Form) where
+  -- what is left at link l of joint j, and at joint j of v
+  abbrev pub linksLeft : ℕ → ℕ → List ℕ
+  linksLeft j l = formBytes (linksFrom S j l (16 - l))
+
+  abbrev pub jointsLeft : ℕ → ℕ → List ℕ
+  jointsLeft v j = formBytes (factsFrom S j (v - j))
+
+  -- c is the link that was read
+  pub links-step : (j l : ℕ) {c : ℕ} → l < 16 → c ≡ S .link j l → linksLeft j l ≡ linkBytes j l c ++ linksLeft j (l + 1)
+  unfolding linksFrom
+  links-step j l {c} h q =
+      let e : 16 - l ≡ suc (16 - (l + 1)) = omega arith in
+      rw (e, add-one, q) (maybe-first (eqb (S .link j l) unknown) (leads j l (S .link j l)) (linksFrom S j (suc l) (16 - suc l)))
+
+  pub links-end : {l : ℕ} (j : ℕ) → 16 ≤ l → linksLeft j l ≡ []
+  unfolding linksFrom allBytes
+  links-end {l} j h = let e : 16 - l ≡ 0 = omega arith in rw e
+
+  pub joints-begin : (v from : ℕ) (s : List ℕ) → Putting (formBytes (factsFrom S 0 v)) from s s from (jointsLeft v 0)
+  joints-begin v from s = let e : v ≡ v - 0 = omega arith in put-begins from s (ap (λ (k : ℕ). formBytes (factsFrom S 0 k)) e)
+
+  pub joints-step : {v j : ℕ} → j < v → jointsLeft v j ≡ formBytes (factsAt S j) ++ jointsLeft v (j + 1)
+  unfolding factsFrom
+  joints-step {v} {j} h =
+      let e : v - j ≡ suc (v - (j + 1)) = omega arith in
+      rw (e, add-one) (bytes-append (factsAt S j) (factsFrom S (suc j) (v - suc j)))
+
+  pub joints-end : {v j : ℕ} → v ≤ j → jointsLeft v j ≡ []
+  unfolding factsFrom allBytes
+  joints-end {v} {j} h = let e : v - j ≡ 0 = omega arith in rw e
+
+  -- the facts of a joint that is not its class's smallest, and of one that is
+  pub at-other : (j : ℕ) {c : ℕ} → c ≡ S .class j → (c ≡ j → ⊥) → formBytes (factsAt S j) ≡ sameBytes j c
+  unfolding factsAt allBytes
+  at-other j {c} e d = rw (← e, ne-eqb c j d)
+
+  pub at-smallest : (j : ℕ) {c k : ℕ} → c ≡ S .class j → c ≡ j → k ≡ S .kind j → formBytes (factsAt S j) ≡ kindBytes j k ++ linksLeft j 0
+  unfolding factsAt
+  at-smallest j {c} {k} e d q = rw (← e, eq-eqb c j d, ← q) (maybe-first (eqb k 1) (has-kind j k) (linksFrom S j 0 16))
+
+-- bytes that are left out where x is y: a kind that is 1, a link that is not known
+module _ (bytes : List ℕ) (at : ℕ) (s : List ℕ) {x y : ℕ} where
+  pub left-out : x ≡ y → Put (cond (eqb x y) [] bytes) at s s at
+  left-out e = rw (eq-eqb x y e) (none-put at s)
+
+  pub room-needed : (x ≡ y → ⊥) → Room (cond (eqb x y) [] bytes) at s → Room bytes at s
+  room-needed d r = rw (ne-eqb x y d) at r
+
+  pub put-in : {t : List ℕ} {end : ℕ} → (x ≡ y → ⊥) → Put bytes at s t end → Put (cond (eqb x y) [] bytes) at s t end
+  put-in d p = rw (ne-eqb x y d) p
+
+-- the facts of joint j put at `at`, by the class and the kind that were read
+module _ (S : Form) (j at : ℕ) (s : List ℕ) {c : ℕ} (e : c ≡ S .class j) where
+  pub other-room : (c ≡ j → ⊥) → Room (formBytes (factsAt S j)) at s → Room (sameBytes j c) at s
+  other-room d r = rw (at-other S j e d) at r
+
+  pub other-put : {t : List ℕ} {end : ℕ} → (c ≡ j → ⊥) → Put (sameBytes j c) at s t end → Put (formBytes (factsAt S j)) at s t end
+  other-put d p = rw (at-other S j e d) p
+
+  module _ (d : c ≡ j) {k : ℕ} (q : k ≡ S .kind j) where
+    joint-begins : Putting (formBytes (factsAt S j)) at s s at (kindBytes j k ++ linksLeft S j 0)
+    joint-begins = put-begins at s (at-smallest S j e d q)
+
+    pub kind-room : Room (formBytes (factsAt S j)) at s → Room (kindBytes j k) at s
+    kind-room r = put-room joint-begins (kindBytes j k) (linksLeft S j 0) refl r
+
+    -- the kind is put; then the links
+    module _ {t : List ℕ} {end : ℕ} (p : Put (kindBytes j k) at s t end) where
+      kind-done : Putting (formBytes (factsAt S j)) at s t end (linksLeft S j 0)
+      kind-done = put-goes-on joint-begins (linksLeft S j 0) refl p
+
+      pub links-room : Room (formBytes (factsAt S j)) at s → Room (linksLeft S j 0) end t
+      links-room r = put-room kind-done (linksLeft S j 0) [] (sym (append-nil (linksLeft S j 0))) r
+
+      pub smallest-put : {u : List ℕ} {last : ℕ} → Put (linksLeft S j 0) end t u last → Put (formBytes (factsAt S j)) at s u last
+      smallest-put l = put-ends (put-goes-on kind-done [] (sym (append-nil (linksLeft S j 0))) l) refl
+
+-- the facts put from byte 6 on, and then the six bytes before them
+pub form-put :
+    (v : ℕ) (fs : List (Fact RigJoint)) {s t u : List ℕ} {end : ℕ} → 6 ≤ length s → Put (allBytes fs) 6 s t end →
+    u ≡ (end - 2) / 256 ∷ (end - 2) % 256 ∷ 1 ∷ 1 ∷ 0 ∷ v ∷ drop 6 t → Put (factsPacket v fs) 0 s u end
+form-put v fs {s} {t} {u} {end} h p e =
+    let m = length (allBytes fs) in
+    let six : end ≡ suc (suc (suc (suc (suc (suc m))))) = omega (arith, p .ends) in
+    let q : end - 2 ≡ lengthOf (length fs) = omega (arith, p .ends, bytes-four fs) in
+    let behind : take m (drop 6 t) ≡ allBytes fs =
+    sym (drop-at (take 6 t) (take m (drop 6 t)) 6 (length-take-le 6 t (omega (arith, p .size))))
+    ∙ ap (drop 6) (sym (take-add 6 m t) ∙ ap (λ (k : ℕ). take k t) (sym (p .ends)) ∙ p .front)
+    ∙ drop-at (take 6 s) (allBytes fs) 6 (length-take-le 6 s h) in
+    record {
+      size = ap length e ∙ omega (arith, length-drop 6 t, p .size);
+      ends = omega (arith, six);
+      front =
+          ap (λ (k : ℕ). take k u) six
+          ∙ ap (take (suc (suc (suc (suc (suc (suc m))))))) e
+          ∙ ap (λ (l : List ℕ). (end - 2) / 256 ∷ (end - 2) % 256 ∷ 1 ∷ 1 ∷ 0 ∷ v ∷ l) behind
+          ∙ ap (λ (l : ℕ). l / 256 ∷ l % 256 ∷ 1 ∷ 1 ∷ 0 ∷ v ∷ allBytes fs) q;
+    }

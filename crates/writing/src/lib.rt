@@ -1,0 +1,125 @@
+// Writing a block's solved form. The form is made in an array of its greatest size first, so that its length is known before a byte of
+// the output is written.
+ghost use mathlib.Core.Path.{_≡_};
+ghost use mathlib.Core.List.{[], _∷_};
+ghost use Prim.Native.Nat.{_+_, _/_, _%_, _<_, _≤_};
+ghost use lib.ListN.{length, drop};
+ghost use Rattle.meaning.specs.Form.{linksFrom, factsAt, factsFrom};
+ghost use Rattle.blocks.specs.Layout.{sessionSize, jointsOf, blockForm};
+ghost use Rattle.writing.specs.Write.{solvedForm, writeReply, writtenOutput};
+ghost use Rattle.writing.specs.Putting.{mostBytes, Room, Put, formBytes, kindBytes, linkBytes};
+use replies::Reply;
+
+// The most bytes that a solved form has.
+const MOST: usize = 4358;
+
+// The four bytes of a fact, put at a place; the place behind them.
+fn put(to: &mut [u8], at: usize, tag: u8, a: u8, x: u8, y: u8) -> usize
+    requires { ⌜ at + 4 ≤ length (now to) ⌝ }
+    ensures { λ r. ⌜ Put (tag ∷ a ∷ x ∷ y ∷ []) at (now (to .entry)) (now (to .exit)) r ⌝ }
+{
+    to[at] = tag;
+    to[at + 1] = a;
+    to[at + 2] = x;
+    to[at + 3] = y;
+    at + 4
+}
+
+// The fact "joint has kind s", unless s is 1.
+fn put_kind(to: &mut [u8], at: usize, joint: u8, s: u8) -> usize
+    requires { ⌜ Room (kindBytes joint s) at (now to) ⌝ }
+    ensures { λ r. ⌜ Put (kindBytes joint s) at (now (to .entry)) (now (to .exit)) r ⌝ }
+{
+    if s == 1 {
+        return at;
+    }
+    put(to, at, 1, joint, s, 0)
+}
+
+// The fact "joint.l is c", unless the link is not known.
+fn put_link(to: &mut [u8], at: usize, joint: u8, l: u8, c: u8) -> usize
+    requires { ⌜ Room (linkBytes joint l c) at (now to) ⌝ }
+    ensures { λ r. ⌜ Put (linkBytes joint l c) at (now (to .entry)) (now (to .exit)) r ⌝ }
+{
+    if c == 255 {
+        return at;
+    }
+    put(to, at, 3, joint, l, c)
+}
+
+// The known links of joint j, in rising order.
+fn put_links(to: &mut [u8], at: usize, block: &[u8], j: usize) -> usize
+    requires { ⌜ (sessionSize ≤ length (now block)) × (j < 64) × Room (formBytes (linksFrom (blockForm (now block)) j 0 16)) at (now to) ⌝ }
+    ensures { λ r. ⌜ Put (formBytes (linksFrom (blockForm (now (block .entry))) j 0 16)) at (now (to .entry)) (now (to .exit)) r ⌝ }
+{
+    let mut end = at;
+    for l in 0..16 {
+        let c = blocks::joints::link_at(block, j, l);
+        end = put_link(to, end, j as u8, l as u8, c);
+    }
+    end
+}
+
+// The facts of joint j: that it is one with its class's smallest joint, or, where it is that itself, its kind and its links.
+fn put_joint(to: &mut [u8], at: usize, block: &[u8], j: usize) -> usize
+    requires { ⌜ (sessionSize ≤ length (now block)) × (j < 64) × Room (formBytes (factsAt (blockForm (now block)) j)) at (now to) ⌝ }
+    ensures { λ r. ⌜ Put (formBytes (factsAt (blockForm (now (block .entry))) j)) at (now (to .entry)) (now (to .exit)) r ⌝ }
+{
+    let class = blocks::joints::class_at(block, j);
+    if class != j as u8 {
+        return put(to, at, 2, j as u8, class, 0);
+    }
+    let kind = blocks::joints::kind_at(block, j);
+    let behind = put_kind(to, at, j as u8, kind);
+    put_links(to, behind, block, j)
+}
+
+// The facts of each of v joints, in rising order.
+fn put_joints(to: &mut [u8], at: usize, block: &[u8], v: usize) -> usize
+    requires { ⌜ (sessionSize ≤ length (now block)) × (v ≤ 64) × Room (formBytes (factsFrom (blockForm (now block)) 0 v)) at (now to) ⌝ }
+    ensures { λ r. ⌜ Put (formBytes (factsFrom (blockForm (now (block .entry))) 0 v)) at (now (to .entry)) (now (to .exit)) r ⌝ }
+{
+    let mut end = at;
+    for j in 0..v {
+        end = put_joint(to, end, block, j);
+    }
+    end
+}
+
+// The first six bytes of a facts packet for v joints whose L is given.
+fn put_header(to: &mut [u8], l: usize, v: u8)
+    requires { ⌜ (6 ≤ length (now to)) × (l < 65536) ⌝ }
+    ensures { λ _. ⌜ now (to .exit) ≡ l / 256 ∷ l % 256 ∷ 1 ∷ 1 ∷ 0 ∷ v ∷ drop 6 (now (to .entry)) ⌝ }
+{
+    to[0] = (l / 256) as u8;
+    to[1] = (l % 256) as u8;
+    to[2] = 1;
+    to[3] = 1;
+    to[4] = 0;
+    to[5] = v;
+}
+
+// The solved form, put at the front; its length. The facts come first: they decide L.
+fn put_form(to: &mut [u8], block: &[u8]) -> usize
+    requires { ⌜ (sessionSize ≤ length (now block)) × (jointsOf (now block) ≤ 64) × (length (now to) ≡ mostBytes) ⌝ }
+    ensures { λ r. ⌜ Put (solvedForm (now (block .entry))) 0 (now (to .entry)) (now (to .exit)) r ⌝ }
+{
+    let v = blocks::joint_count(block);
+    let end = put_joints(to, 6, block, v as usize);
+    put_header(to, end - 2, v);
+    end
+}
+
+// The solved form as a facts packet, where the output has room for it. A refusal writes nothing.
+pub fn write(block: &[u8], out: &mut [u8]) -> Reply
+    ensures { λ r. ⌜ (r ≡ writeReply (now (block .entry)) (now (out .entry)))
+        × (now (out .exit) ≡ writtenOutput (now (block .entry)) (now (out .entry))) ⌝ }
+{
+    let reply = blocks::block_reply(block);
+    if replies::is_refusal(reply) {
+        return reply;
+    }
+    let mut form = [0u8; MOST];
+    let size = put_form(&mut form, block);
+    outputs::put_out(out, &form[..size])
+}
