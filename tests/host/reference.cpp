@@ -1,13 +1,34 @@
 #include "reference.hpp"
-#include "layout.hpp"
 
 #include <cstring>
 
 namespace paper {
 namespace {
 
-using namespace layout;
+using Byte = std::uint8_t;
+using std::size_t;
 using std::uint64_t;
+
+constexpr size_t joint_limit = 64;
+constexpr size_t rule_joint_limit = 32;
+constexpr size_t tie_limit = 8;
+constexpr size_t link_count = 16;
+constexpr size_t fact_limit = 1088;
+constexpr size_t house_kinds = 33;
+
+constexpr size_t classes_at = 2;
+constexpr size_t kinds_at = classes_at + joint_limit;
+constexpr size_t links_at = kinds_at + joint_limit;
+constexpr size_t table_at = links_at + joint_limit * link_count;
+constexpr size_t block_length = table_at + 64 * 64;
+static_assert(block_length == 5250, "the paper fixes the block's length");
+
+constexpr size_t ties_at = 6;
+constexpr size_t tie_length = 2;
+constexpr size_t fact_length = 4;
+
+constexpr Byte kind_any = 1;
+constexpr Byte not_known = 255;
 
 enum Tag : Byte { has_kind = 1, is_one_with = 2, link_leads = 3 };
 enum Purpose : Byte { for_facts = 1, for_rule = 2 };
@@ -22,7 +43,7 @@ struct Reply {
 };
 
 // The house kinds by their direct parents; 0 stands for "no further parent".
-constexpr Byte house_parents[house_kind_count][2] = {
+constexpr Byte house_parents[house_kinds][2] = {
     {0, 0},                                // 0 none: under all
     {0, 0},                                // 1 any
     {1, 0},   {1, 0},   {1, 0},            // left right centre
@@ -51,8 +72,8 @@ template <Fault fault> struct Paper {
 
     static constexpr bool has(Fault one) { return one == fault; }
 
-    // Only these let an entry of n or more into the solver, which must then not read past the table: a fault has to
-    // give wrong answers, not crash the tests.
+    // Only these let an entry of n or more into the solver, which must then not
+    // read past the table: a fault has to give wrong answers, not crash the tests.
     static constexpr bool table_may_be_bad = has(Fault::entry_equal_to_n_passes) || has(Fault::block_table_unchecked);
 
     static Byte entry(const Byte* table, size_t n, size_t i, size_t j)
@@ -138,23 +159,23 @@ template <Fault fault> struct Paper {
         const size_t v = block[1];
         const Byte own_class = block[classes_at + joint];
         const Byte kind = block[kinds_at + joint];
-        const Byte* row = block + links_at + joint * links_per_joint;
+        const Byte* row = block + links_at + joint * link_count;
 
         if (joint >= v) {
             if constexpr (has(Fault::joints_beyond_v_unchecked))
                 return true;
-            return own_class == 0 && kind == 0 && all_zero(row, row + links_per_joint);
+            return own_class == 0 && kind == 0 && all_zero(row, row + link_count);
         }
         if (own_class > joint)
             return false;
         if (own_class != joint) {
             if (!has(Fault::class_of_class_unchecked) && !is_class(block, own_class))
                 return false;
-            return kind == 0 && (has(Fault::member_rows_unchecked) || all_zero(row, row + links_per_joint));
+            return kind == 0 && (has(Fault::member_rows_unchecked) || all_zero(row, row + link_count));
         }
         if (kind >= n || (kind == 0 && !has(Fault::class_kind_zero_passes)))
             return false;
-        for (size_t l = 0; l < links_per_joint; l++) {
+        for (size_t l = 0; l < link_count; l++) {
             const bool target_stands = has(Fault::link_to_member_passes) ? row[l] < v : is_class(block, row[l]);
             if (row[l] != not_known && !target_stands)
                 return false;
@@ -167,9 +188,9 @@ template <Fault fault> struct Paper {
         const Reply malformed = {4};
         const size_t n = block[0];
         const size_t v = block[1];
-        if (n < 2 || n > most_kinds || v < 1 || v > most_joints)
+        if (n < 2 || n > 64 || v < 1 || v > joint_limit)
             return malformed;
-        for (size_t joint = 0; joint < most_joints; joint++)
+        for (size_t joint = 0; joint < joint_limit; joint++)
             if (!joint_well_formed(block, joint))
                 return malformed;
         if (!has(Fault::table_tail_unchecked) && !all_zero(block + table_at + n * n, block + block_length))
@@ -180,12 +201,6 @@ template <Fault fault> struct Paper {
                 return has(Fault::table_reply_from_block) ? table : malformed;
         }
         return {};
-    }
-
-    // 1 and 4, with which every call on a block begins.
-    static Reply check_lent_block(const Byte* block, size_t block_size)
-    {
-        return block_size != block_length ? Reply{1} : check_block(block);
     }
 
     static size_t count_classes(const Byte* block)
@@ -210,7 +225,7 @@ template <Fault fault> struct Paper {
         case is_one_with:
             return fact[2] < joints && fact[3] == 0;
         case link_leads:
-            return fact[2] < links_per_joint && fact[3] < joints;
+            return fact[2] < link_count && fact[3] < joints;
         default:
             return false;
         }
@@ -234,7 +249,7 @@ template <Fault fault> struct Paper {
 
     static Reply check_reached(const Packet& packet)
     {
-        bool reached[most_rule_joints] = {};
+        bool reached[rule_joint_limit] = {};
         for (size_t i = 0; i < packet.tie_count; i++)
             reached[packet.tie(i)[0]] = true;
         for (bool grown = true; grown;) {
@@ -286,21 +301,21 @@ template <Fault fault> struct Paper {
         const size_t joints = bytes[5];
         if (bytes[3] != purpose)
             return {7, 3};
-        if (purpose == for_facts ? ties != 0 : ties < 1 || ties > most_ties)
+        if (purpose == for_facts ? ties != 0 : ties < 1 || ties > tie_limit)
             return {7, 4};
-        if (purpose == for_facts ? joints != v : joints < 1 || joints > most_rule_joints)
+        if (purpose == for_facts ? joints != v : joints < 1 || joints > rule_joint_limit)
             return {7, 5};
 
         const size_t before_facts = 4 + tie_length * ties;
         if (length < before_facts)
-            return has(Fault::ties_may_be_cut) ? Reply{9, head_length} : Reply{8};
-        const size_t most = has(Fault::facts_1089_pass)      ? most_facts + 1
-                            : has(Fault::facts_1088_refused) ? most_facts - 1
-                                                             : most_facts;
+            return has(Fault::ties_may_be_cut) ? Reply{9, ties_at} : Reply{8};
+        const size_t most = has(Fault::facts_1089_pass)      ? fact_limit + 1
+                            : has(Fault::facts_1088_refused) ? fact_limit - 1
+                                                             : fact_limit;
         if ((length - before_facts) % fact_length != 0 || (length - before_facts) / fact_length > most)
             return {8};
 
-        packet.ties = bytes + head_length;
+        packet.ties = bytes + ties_at;
         packet.tie_count = ties;
         packet.facts = packet.ties + ties * tie_length;
         packet.fact_count = (length - before_facts) / fact_length;
@@ -314,13 +329,13 @@ template <Fault fault> struct Paper {
 
     // -------------------------------------------------------------------- solver
 
-    // What follows from a set of facts. Rig joints are the nodes 0 to 63, a rule's joints the nodes from 64 on, so no
-    // number stands for both, and since a class is led by its smallest node a class with a rig joint is led by a rig
-    // joint.
+    // What follows from a set of facts. Rig joints are the nodes 0 to 63, a rule's
+    // joints the nodes from 64 on, so no number stands for both, and since a class
+    // is led by its smallest node a class with a rig joint is led by a rig joint.
     class Solver {
     public:
-        static constexpr size_t rule_node(size_t rule_joint) { return most_joints + rule_joint; }
-        static constexpr size_t nodes = most_joints + most_rule_joints;
+        static constexpr size_t rule_node(size_t rule_joint) { return joint_limit + rule_joint; }
+        static constexpr size_t nodes = joint_limit + rule_joint_limit;
 
         explicit Solver(const Byte* block, size_t rule_joints = 0)
             : table(block + table_at), n(block[0]), with_rule(rule_joints > 0)
@@ -328,12 +343,12 @@ template <Fault fault> struct Paper {
             const size_t v = block[1];
             std::memcpy(leader, block + classes_at, v);
             std::memcpy(kind, block + kinds_at, v);
-            std::memcpy(link, block + links_at, v * links_per_joint);
+            std::memcpy(link, block + links_at, v * link_count);
             for (size_t joint = 0; joint < rule_joints; joint++) {
                 const size_t node = rule_node(joint);
                 leader[node] = static_cast<Byte>(node);
                 kind[node] = kind_any;
-                std::memset(link[node], not_known, links_per_joint);
+                std::memset(link[node], not_known, link_count);
             }
         }
 
@@ -368,7 +383,7 @@ template <Fault fault> struct Paper {
         bool add_join(size_t a, size_t b)
         {
             // A join hands on at most 16 more, and at most nodes - 1 joins are new.
-            Byte open_joins[nodes * links_per_joint + 1][2];
+            Byte open_joins[nodes * link_count + 1][2];
             size_t open_count = 0;
             const auto hand_on = [&](size_t x, size_t y) {
                 open_joins[open_count][0] = static_cast<Byte>(x);
@@ -389,7 +404,7 @@ template <Fault fault> struct Paper {
                 kind[kept] = entry(table, n, kind[kept], kind[gone]);
                 if (kind[kept] == 0)
                     return false;
-                const size_t links = has(Fault::last_link_forgotten) ? links_per_joint - 1 : links_per_joint;
+                const size_t links = has(Fault::last_link_forgotten) ? link_count - 1 : link_count;
                 for (size_t l = 0; l < links; l++) {
                     if (link[gone][l] == not_known)
                         continue;
@@ -419,10 +434,10 @@ template <Fault fault> struct Paper {
         {
             for (size_t joint = 0; joint < block[1]; joint++) {
                 const size_t own_class = class_of(joint);
-                Byte* row = block + links_at + joint * links_per_joint;
+                Byte* row = block + links_at + joint * link_count;
                 block[classes_at + joint] = static_cast<Byte>(own_class);
                 block[kinds_at + joint] = own_class == joint ? kind[joint] : 0;
-                for (size_t l = 0; l < links_per_joint; l++)
+                for (size_t l = 0; l < link_count; l++)
                     row[l] = own_class == joint ? static_cast<Byte>(target_of(joint, l)) : 0;
             }
         }
@@ -438,33 +453,38 @@ template <Fault fault> struct Paper {
         bool with_rule;
         Byte leader[nodes];
         Byte kind[nodes];
-        Byte link[nodes][links_per_joint];
+        Byte link[nodes][link_count];
     };
 
     // ------------------------------------------------------------------- verdicts
 
     // One solve of the rig's facts, the ties and the rule's facts decides.
     //
-    // Write C for the picture of the block's classes, in which exactly the forced facts hold, and J for the solve of
-    // everything together.
+    // Write C for the picture of the block's classes, in which exactly the forced
+    // facts hold, and J for the solve of everything together.
     //
-    // Ruled out: some picture of the rig has a placing of the rule exactly when rig, ties and rule are satisfiable
-    // together, which is when J does not clash: J's classes are then such a picture, and a clash means that some
-    // element would need a kind under 0.
+    // Ruled out: some picture of the rig has a placing of the rule exactly when rig,
+    // ties and rule are satisfiable together, which is when J does not clash: J's
+    // classes are then such a picture, and a clash means that some element would
+    // need a kind under 0.
     //
-    // Applies: facts are positive, and C maps into every picture of the rig (class to element) with kinds only getting
-    // lower and links kept. So the rule applies exactly when it holds in C itself. If it holds in C, then C satisfies
-    // all that J was made from, so whatever J forces about the rig already holds in C: nothing new about the rig. And
-    // every rule joint falls together with a rig joint: a tied one by its tie; and if a falls together with r, and "a.l
-    // is c" is in the rule, then link l is defined at r's class in C, where a is placed, and leads to a class of rig
-    // joints, with which J joins c. Since every rule joint is reached, that is all of them. The other way round, if
-    // nothing new about the rig follows and every rule joint falls together with a rig joint, placing each at that
-    // joint's class satisfies ties and rule in C, for J's part on the rig is C.
+    // Applies: facts are positive, and C maps into every picture of the rig (class
+    // to element) with kinds only getting lower and links kept. So the rule applies
+    // exactly when it holds in C itself. If it holds in C, then C satisfies all that
+    // J was made from, so whatever J forces about the rig already holds in C:
+    // nothing new about the rig. And every rule joint falls together with a rig
+    // joint: a tied one by its tie; and if a falls together with r, and "a.l is c" is
+    // in the rule, then link l is defined at r's class in C, where a is placed, and
+    // leads to a class of rig joints, with which J joins c. Since every rule joint is
+    // reached, that is all of them.
+    // The other way round, if nothing new about the rig follows and every rule joint
+    // falls together with a rig joint, placing each at that joint's class satisfies
+    // ties and rule in C, for J's part on the rig is C.
     static Verdict decide(const Byte* block, const Packet& rule, Solver& all)
     {
         const size_t v = block[1];
 
-        bool seen[most_rule_joints] = {};
+        bool seen[rule_joint_limit] = {};
         for (size_t i = 0; i < rule.tie_count; i++) {
             const Byte* tie = rule.tie(i);
             if (has(Fault::repeated_tie_ignored) && seen[tie[0]])
@@ -477,7 +497,7 @@ template <Fault fault> struct Paper {
             const Byte* fact = rule.fact(i);
             if constexpr (has(Fault::unknown_link_rules_out)) {
                 const size_t node = Solver::rule_node(fact[1]);
-                if (fact[0] == link_leads && all.class_of(node) < most_joints &&
+                if (fact[0] == link_leads && all.class_of(node) < joint_limit &&
                     all.target_of(node, fact[2]) == not_known)
                     return ruled_out;
             }
@@ -486,7 +506,7 @@ template <Fault fault> struct Paper {
         }
 
         for (size_t joint = 0; joint < rule.joints; joint++)
-            if (all.class_of(Solver::rule_node(joint)) >= most_joints && !has(Fault::new_link_still_applies))
+            if (all.class_of(Solver::rule_node(joint)) >= joint_limit && !has(Fault::new_link_still_applies))
                 return waits;
         for (size_t joint = 0; joint < v; joint++) {
             if (all.class_of(joint) != block[classes_at + joint]) {
@@ -498,8 +518,8 @@ template <Fault fault> struct Paper {
                 continue;
             if (all.kind_of(joint) != block[kinds_at + joint] && !has(Fault::new_kind_still_applies))
                 return waits;
-            for (size_t l = 0; l < links_per_joint; l++) {
-                const Byte before = block[links_at + joint * links_per_joint + l];
+            for (size_t l = 0; l < link_count; l++) {
+                const Byte before = block[links_at + joint * link_count + l];
                 if (has(Fault::new_link_still_applies) && before == not_known)
                     continue;
                 if (has(Fault::new_join_still_applies) && before != not_known)
@@ -525,7 +545,7 @@ template <Fault fault> struct Paper {
             n &= 0xffffffff;
             v &= 0xffffffff;
         }
-        if (n < 2 || n > most_kinds || v < 1 || v > most_joints || table_size != n * n || block_size != block_length)
+        if (n < 2 || n > 64 || v < 1 || v > joint_limit || table_size != n * n || block_size != block_length)
             return Reply{1}.packed();
         const Reply checked = check_table(table, n);
         if (checked.number != 0)
@@ -537,7 +557,7 @@ template <Fault fault> struct Paper {
         for (size_t joint = 0; joint < v; joint++) {
             block[classes_at + joint] = static_cast<Byte>(joint);
             block[kinds_at + joint] = kind_any;
-            std::memset(block + links_at + joint * links_per_joint, not_known, links_per_joint);
+            std::memset(block + links_at + joint * link_count, not_known, link_count);
         }
         std::memcpy(block + table_at, table, table_size);
         return Reply{0}.packed();
@@ -545,7 +565,9 @@ template <Fault fault> struct Paper {
 
     static uint64_t take(Byte* block, size_t block_size, const Byte* bytes, size_t size)
     {
-        const Reply block_reply = check_lent_block(block, block_size);
+        if (block_size != block_length)
+            return Reply{1}.packed();
+        const Reply block_reply = check_block(block);
         if (block_reply.number != 0)
             return block_reply.packed();
         Packet packet;
@@ -592,7 +614,9 @@ template <Fault fault> struct Paper {
 
     static uint64_t ask(const Byte* block, size_t block_size, const Byte* bytes, size_t size)
     {
-        const Reply block_reply = check_lent_block(block, block_size);
+        if (block_size != block_length)
+            return Reply{1}.packed();
+        const Reply block_reply = check_block(block);
         if (block_reply.number != 0)
             return block_reply.packed();
         Packet rule;
@@ -612,12 +636,14 @@ template <Fault fault> struct Paper {
 
     static uint64_t write(const Byte* block, size_t block_size, Byte* out, size_t out_size)
     {
-        const Reply block_reply = check_lent_block(block, block_size);
+        if (block_size != block_length)
+            return Reply{1}.packed();
+        const Reply block_reply = check_block(block);
         if (block_reply.number != 0)
             return block_reply.packed();
 
-        Byte form[longest_solved_form];
-        size_t used = head_length;
+        Byte form[ties_at + fact_length * fact_limit];
+        size_t used = ties_at;
         const auto add = [&](Byte tag, size_t a, Byte b, Byte c) {
             form[used] = tag;
             form[used + 1] = static_cast<Byte>(a);
@@ -633,8 +659,8 @@ template <Fault fault> struct Paper {
             const Byte kind = block[kinds_at + joint];
             if (kind != kind_any || has(Fault::kind_any_written))
                 add(has_kind, joint, kind, 0);
-            const Byte* row = block + links_at + joint * links_per_joint;
-            for (size_t l = 0; l < links_per_joint; l++)
+            const Byte* row = block + links_at + joint * link_count;
+            for (size_t l = 0; l < link_count; l++)
                 if (row[l] != not_known)
                     add(link_leads, joint, static_cast<Byte>(l), row[l]);
         }
@@ -653,35 +679,36 @@ template <Fault fault> struct Paper {
         return Reply{0, 0, used}.packed();
     }
 
-    // The meet of two house kinds is the greatest kind under both, worked out from the parents: "under" is the parents'
-    // reflexive and transitive closure, with kind 0 under every kind.
+    // The meet of two house kinds is the greatest kind under both, worked out from
+    // the parents: "under" is the parents' reflexive and transitive closure, with
+    // kind 0 under every kind.
     static uint64_t house(Byte* table, size_t table_size)
     {
-        if (table_size != house_length)
+        if (table_size != house_kinds * house_kinds)
             return Reply{1}.packed();
 
-        bool under[house_kind_count][house_kind_count] = {};
-        for (size_t kind = 0; kind < house_kind_count; kind++) {
+        bool under[house_kinds][house_kinds] = {};
+        for (size_t kind = 0; kind < house_kinds; kind++) {
             // Every parent of a kind comes before it, so its own row is finished.
             under[kind][kind] = true;
             for (const Byte parent : house_parents[kind])
-                for (size_t above = 0; parent != 0 && above < house_kind_count; above++)
+                for (size_t above = 0; parent != 0 && above < house_kinds; above++)
                     under[kind][above] |= under[parent][above];
         }
-        for (size_t above = 0; above < house_kind_count; above++)
+        for (size_t above = 0; above < house_kinds; above++)
             under[0][above] = true;
 
-        for (size_t i = 0; i < house_kind_count; i++)
-            for (size_t j = 0; j < house_kind_count; j++)
-                for (size_t candidate = 0; candidate < house_kind_count; candidate++) {
+        for (size_t i = 0; i < house_kinds; i++)
+            for (size_t j = 0; j < house_kinds; j++)
+                for (size_t candidate = 0; candidate < house_kinds; candidate++) {
                     if (!under[candidate][i] || !under[candidate][j])
                         continue;
                     bool greatest = true;
-                    for (size_t other = 0; other < house_kind_count; other++)
+                    for (size_t other = 0; other < house_kinds; other++)
                         if (under[other][i] && under[other][j] && !under[other][candidate])
                             greatest = false;
                     if (greatest || has(Fault::house_meet_by_largest_number))
-                        table[i * house_kind_count + j] = static_cast<Byte>(candidate);
+                        table[i * house_kinds + j] = static_cast<Byte>(candidate);
                 }
         return Reply{0}.packed();
     }
@@ -693,8 +720,8 @@ template <Fault fault> struct Paper {
         for (size_t joint = 0; joint < block[1]; joint++) {
             if (block[classes_at + joint] != joint || block[kinds_at + joint] != kind_any)
                 return false;
-            for (size_t l = 0; l < links_per_joint; l++)
-                if (block[links_at + joint * links_per_joint + l] != not_known)
+            for (size_t l = 0; l < link_count; l++)
+                if (block[links_at + joint * link_count + l] != not_known)
                     return false;
         }
         return true;
@@ -714,8 +741,8 @@ template <Fault fault> struct Paper {
     {
         Byte* lent = const_cast<Byte*>(block);
         for (size_t joint = 0; joint < block[1]; joint++)
-            for (size_t l = 0; l < links_per_joint; l++)
-                if (is_class(block, joint) && all.target_of(joint, l) >= most_joints &&
+            for (size_t l = 0; l < link_count; l++)
+                if (is_class(block, joint) && all.target_of(joint, l) >= joint_limit &&
                     all.target_of(joint, l) != not_known)
                     return;
         all.store(lent);
