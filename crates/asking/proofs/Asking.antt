@@ -26,16 +26,18 @@ use Rattle.meaning.specs.Solving.{InRange}
 use Rattle.meaning.specs.Asking.{TiesInRange, RuleInRange, ruleNumber, ruleNode, tieFact, ruleNodeFacts, Extends, Settled}
 use Rattle.meaning.proofs.Extend.{extend-well}
 use Rattle.meaning.proofs.Asked.{clash-ruled-out, taken-not-out, settled-applies, applies-settled}
-use Rattle.packets.specs.Packet.{ties, joints, tieAt, factAt, factCount, packetReply, ruleWanted}
+use Rattle.packets.specs.Packet.{ties, joints, tieAt, factAt, factCount}
 use Rattle.packets.specs.Facts.{factOf, tieOf, ruleOf}
-use Rattle.packets.proofs.WellFormed.{WellFormed, well-formed, packet-done}
 use Rattle.packets.proofs.Facts.{fact-named, each-in-range}
+use Rattle.screening.specs.Screening.{packetReply, ruleWanted}
+use Rattle.screening.proofs.WellFormed.{WellFormed, well-formed, packet-done}
 use Rattle.reach.specs.Reached.{ReachReply}
 use Rattle.reach.specs.Marking.{nthFact}
 use Rattle.reach.proofs.Reached.{all-reached}
 use Rattle.solver.specs.declared.Solved.{Solved}
 use Rattle.solver.specs.Unpacked.{formOf, Ready, Took}
-use Rattle.blocks.specs.Layout.{kindsOf, jointsOf, tableOf, blockForm, rigOf, taken}
+use Rattle.joints.specs.Layout.{kindsOf, jointsOf, blockForm, taken}
+use Rattle.blocks.specs.Layout.{tableOf, rigOf}
 use Rattle.blocks.specs.WellFormed.{blockReply}
 use Rattle.blocks.proofs.Shape.{GoodBlock, call-goes-on, block-rig, block-sized}
 use Rattle.asking.specs.Ask.{askRefusal}

@@ -12,7 +12,8 @@ use Rattle.meaning.specs.Rule.{Judged, verdictNumber}
 use Rattle.meaning.proofs.Canon.{applies-not-ruled-out}
 use Rattle.packets.specs.Facts.{ruleOf}
 use Rattle.reach.proofs.Reached.{reach-one}
-use Rattle.blocks.specs.Layout.{rigOf, taken}
+use Rattle.joints.specs.Layout.{taken}
+use Rattle.blocks.specs.Layout.{rigOf}
 use Rattle.blocks.proofs.Shape.{GoodBlock, block-rig}
 use Rattle.asking.specs.Ask.{Ask}
 use Rattle.asking.specs.Ask.Ask.{refused, unreached, judged}

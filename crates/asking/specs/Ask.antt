@@ -9,10 +9,11 @@ use Rattle.replies.specs.declared.Reply.the-variants.{Done}
 use Rattle.replies.specs.Replies.{refuses, firstRefusal}
 use Rattle.meaning.specs.declared.Verdict.{Verdict}
 use Rattle.meaning.specs.Rule.{Judged, verdictNumber}
-use Rattle.packets.specs.Packet.{packetReply, ruleWanted}
 use Rattle.packets.specs.Facts.{ruleOf}
+use Rattle.screening.specs.Screening.{packetReply, ruleWanted}
 use Rattle.reach.specs.Reached.{ReachReply}
-use Rattle.blocks.specs.Layout.{kindsOf, jointsOf, rigOf, taken}
+use Rattle.joints.specs.Layout.{kindsOf, jointsOf, taken}
+use Rattle.blocks.specs.Layout.{rigOf}
 use Rattle.blocks.specs.WellFormed.{blockReply}
 
 -- replies 1 and 4 to 9, the lowest first; done where none fits

@@ -11,12 +11,14 @@ ghost use Rattle.meaning.specs.Picture.{rename};
 ghost use Rattle.meaning.specs.Rule.{Judged};
 ghost use Rattle.meaning.specs.Solving.{InRange};
 ghost use Rattle.meaning.specs.Asking.{ruleNumber, ruleNode, tieFact, ruleNodeFacts, Settled};
-ghost use Rattle.packets.specs.Packet.{joints, packetReply, ruleWanted};
+ghost use Rattle.packets.specs.Packet.{joints};
 ghost use Rattle.packets.specs.Facts.{ruleOf};
 ghost use Rattle.packets.specs.Decoding.{ruleFact};
+ghost use Rattle.screening.specs.Screening.{packetReply, ruleWanted};
 ghost use Rattle.reach.specs.Reached.{ReachReply};
 ghost use Rattle.solver.specs.Unpacked.{formOf, nodeFact, Ready, Took};
-ghost use Rattle.blocks.specs.Layout.{rigOf, taken};
+ghost use Rattle.joints.specs.Layout.{taken};
+ghost use Rattle.blocks.specs.Layout.{rigOf};
 ghost use Rattle.asking.specs.Ask.{askRefusal, Ask};
 use meaning::RuleFact;
 use meaning::RuleJoint;
@@ -173,8 +175,8 @@ fn verdict(block: &[u8], packet: &[u8]) -> Verdict
     requires { ⌜ ReachReply (ruleOf (now packet)) (Done 0) ⌝ }
     ensures { λ r. ⌜ Judged (rigOf (now (block .entry))) (taken (now (block .entry))) (ruleOf (now (packet .entry))) r ⌝ }
 {
-    let n = blocks::kind_count(block) as usize;
-    let v = blocks::joint_count(block);
+    let n = joints::kind_count(block) as usize;
+    let v = joints::joint_count(block);
     let k = packet[5] as usize;
     let start = unpacking::unpack(block, v as usize, k);
     let end = with_rule(start, blocks::kind_table(block), n, v, packet);
@@ -195,10 +197,10 @@ fn ask_refusal(block: &[u8], packet: &[u8]) -> Reply
     if replies::is_refusal(lent) {
         return lent;
     }
-    packets::rule_reply(
+    screening::rule_reply(
         packet,
-        blocks::kind_count(block) as usize,
-        blocks::joint_count(block) as usize,
+        joints::kind_count(block) as usize,
+        joints::joint_count(block) as usize,
     )
 }
 

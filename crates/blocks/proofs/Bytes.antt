@@ -1,67 +1,28 @@
--- Blocks as bytes: what a block made of its parts holds, what stays when another form is put into a block, and that a well-formed block is
--- fixed by its rig and its form, or by what its form means: byte by byte, each byte found in its part.
+-- Blocks as bytes: what stays when another form is put into a block, and that a well-formed block is fixed by its rig and its form, or by
+-- what its form means: byte by byte, those of the session and those of the table's room.
 -- Assumes nothing.
-use mathlib.Core.Path.{_≡_, refl, sym, ap, _∙_, subst}
+use mathlib.Core.Path.{_≡_, sym, ap, _∙_, subst}
 use mathlib.Core.Logic.{by-cases}
-use mathlib.Core.List.{List, _++_}
-use Prim.Native.Nat.{ℕ, _+_, _-_, _*_, _/_, _%_, _<_, _≤_}
+use mathlib.Core.List.{List}
+use Prim.Native.Nat.{ℕ, _+_, _-_, _*_, _≤_}
 use native.Mathlib.Omega.{arith}
 use native.Mathlib.Decide.{decLt}
-use native.Mathlib.Nat.{div-add-mod', mod-lt}
-use lib.ListN.{length, getD, take, drop, length-append, length-drop, List·getD-append}
-use lib.Seq.{length-take-le, take-at, drop-at, drop-drop, getD-take, getD-drop, ext-getD}
+use lib.ListN.{length, getD, take}
+use lib.Seq.{ext-getD}
 use Rattle.tables.specs.Check.{tableReply}
 use Rattle.meaning.specs.declared.RigJoint.{RigJoint}
 use Rattle.meaning.specs.Picture.{Fact}
 use Rattle.meaning.specs.Form.{listForm, takenFacts}
-use Rattle.meaning.specs.Solving.{Smallest, Well}
+use Rattle.meaning.specs.Solving.{Well}
 use Rattle.meaning.specs.Rig.{Rig, SameMeaning}
 use Rattle.meaning.specs.Rig.Profile.{every}
 use Rattle.meaning.proofs.SameForm.{SameForm, form-sym, form-well}
 use Rattle.meaning.proofs.Unique.{same-meaning, one-form}
-use Rattle.blocks.specs.Layout.{sessionSize, blockSize, kindsOf, jointsOf, classesOf, jointKindsOf, rowsOf, roomOf, tableOf, blockForm, rigOf, taken}
-use Rattle.blocks.specs.Storing.{withForm}
-use Rattle.blocks.proofs.Shape.{WellBlock, GoodBlock, Ends, block-ends, block-rig}
-
--- a byte from m on, counted from there; and in the part of some size that begins there
-pub byte-from : (m : ℕ) (b : List ℕ) (i : ℕ) → m ≤ i → getD b i 0 ≡ getD (drop m b) (i - m) 0
-byte-from m b i h = let e : m + (i - m) ≡ i = omega arith in sym (getD-drop m b (i - m) 0 ∙ ap (λ (k : ℕ). getD b k 0) e)
-
-byte-in : (m size : ℕ) (b : List ℕ) (i : ℕ) → m ≤ i → i < m + size → getD b i 0 ≡ getD (take size (drop m b)) (i - m) 0
-byte-in m size b i h g = byte-from m b i h ∙ sym (getD-take size (drop m b) (i - m) 0 (omega arith))
-
--- b has the bytes p in front, then the classes c, the kinds k, the rows r, and then d
-pub record MadeOf (b p c k r d : List ℕ) : Type 0 where
-  pub size : length b ≡ 1154 + length d
-  pub front : (i : ℕ) → i < 2 → getD b i 0 ≡ getD p i 0
-  pub classes : classesOf b ≡ c
-  pub kinds : jointKindsOf b ≡ k
-  pub rows : rowsOf b ≡ r
-  pub behind : drop 1154 b ≡ d
-
-pub made-of : (p c k r d : List ℕ) → length p ≡ 2 → length c ≡ 64 → length k ≡ 64 → length r ≡ 1024 →
-    MadeOf (p ++ (c ++ (k ++ (r ++ d)))) p c k r d
-made-of p c k r d lp lc lk lr =
-    record {
-      size = simp length-append (omega arith);
-      front = λ i h. List·getD-append p (c ++ (k ++ (r ++ d))) 0 i (omega arith);
-      classes = ap (take 64) from-2 ∙ take-at c (k ++ (r ++ d)) 64 lc;
-      kinds = ap (take 64) from-66 ∙ take-at k (r ++ d) 64 lk;
-      rows = ap (take 1024) from-130 ∙ take-at r d 1024 lr;
-      behind = sym (drop-drop 1024 130 whole) ∙ ap (drop 1024) from-130 ∙ drop-at r d 1024 lr;
-    }
-  where
-    whole : List ℕ
-    whole = p ++ (c ++ (k ++ (r ++ d)))
-
-    from-2 : drop 2 whole ≡ c ++ (k ++ (r ++ d))
-    from-2 = drop-at p (c ++ (k ++ (r ++ d))) 2 lp
-
-    from-66 : drop 66 whole ≡ k ++ (r ++ d)
-    from-66 = sym (drop-drop 64 2 whole) ∙ ap (drop 64) from-2 ∙ drop-at c (k ++ (r ++ d)) 64 lc
-
-    from-130 : drop 130 whole ≡ r ++ d
-    from-130 = sym (drop-drop 64 66 whole) ∙ ap (drop 64) from-66 ∙ drop-at k (r ++ d) 64 lk
+use Rattle.joints.specs.Layout.{sessionSize, kindsOf, jointsOf, blockForm, taken}
+use Rattle.joints.specs.Storing.{withForm}
+use Rattle.joints.proofs.Parts.{byte-from, byte-in, with-size, with-front, with-behind, with-form, own-same}
+use Rattle.blocks.specs.Layout.{blockSize, roomOf, tableOf, rigOf}
+use Rattle.blocks.proofs.Shape.{WellBlock, GoodBlock, block-rig}
 
 -- blocks with the same n, V and table rest on the same rig
 pub same-rig : (b b' : List ℕ) → kindsOf b ≡ kindsOf b' → tableOf b ≡ tableOf b' → jointsOf b ≡ jointsOf b' → rigOf b ≡ rigOf b'
@@ -71,65 +32,22 @@ same-rig b b' n t v = rig-of n t v
         _≡_ {A = Rig} (record { kinds = m; table = x; joints = v; profile = every }) (record { kinds = k; table = y; joints = w; profile = every })
     rig-of p q r = rw (p, q, r)
 
--- another form put into a block
-module _
-    (b c k r : List ℕ) (size : length b ≡ blockSize) (lc : 64 ≤ length c) (lk : 64 ≤ length k) (lr : 1024 ≤ length r) where
-  pub with-parts : MadeOf (withForm b c k r) (take 2 b) (take 64 c) (take 64 k) (take 1024 r) (drop 1154 b)
-  with-parts =
-      made-of (take 2 b) (take 64 c) (take 64 k) (take 1024 r) (drop 1154 b)
-      (length-take-le 2 b (omega arith)) (length-take-le 64 c lc) (length-take-le 64 k lk) (length-take-le 1024 r lr)
+-- blocks with the same room have the same bytes there
+same-behind : (b b' : List ℕ) → roomOf b ≡ roomOf b' → (i : ℕ) → sessionSize ≤ i → getD b i 0 ≡ getD b' i 0
+same-behind b b' e i h =
+    byte-from sessionSize b i h ∙ ap (λ (d : List ℕ). getD d (i - sessionSize) 0) e ∙ sym (byte-from sessionSize b' i h)
 
-  pub with-size : length (withForm b c k r) ≡ blockSize
-  with-size = omega (arith, with-parts .size, length-drop sessionSize b)
-
-  pub with-rig : rigOf (withForm b c k r) ≡ rigOf b
-  with-rig =
-      same-rig (withForm b c k r) b kinds
-      (ap (λ (n : ℕ). take (n * n) (roomOf (withForm b c k r))) kinds ∙ ap (take (kindsOf b * kindsOf b)) (with-parts .behind))
-      (with-parts .front 1 (omega arith) ∙ getD-take 2 b 1 0 (omega arith))
-    where
-      kinds : kindsOf (withForm b c k r) ≡ kindsOf b
-      kinds = with-parts .front 0 (omega arith) ∙ getD-take 2 b 0 0 (omega arith)
-
-  pub with-behind : (i : ℕ) → 1154 ≤ i → getD (withForm b c k r) i 0 ≡ getD b i 0
-  with-behind i h =
-      byte-from 1154 (withForm b c k r) i h
-      ∙ ap (λ (d : List ℕ). getD d (i - 1154) 0) (with-parts .behind)
-      ∙ sym (byte-from 1154 b i h)
-
-  pub with-class : (j : ℕ) → j < 64 → blockForm (withForm b c k r) .class j ≡ getD c j 0
-  with-class j h = rw (with-parts .classes) (getD-take 64 c j 0 h)
-
-  pub with-kind : (j : ℕ) → j < 64 → blockForm (withForm b c k r) .kind j ≡ getD k j 0
-  with-kind j h = rw (with-parts .kinds) (getD-take 64 k j 0 h)
-
-  pub with-link : (j l : ℕ) → j < 64 → l < 16 → blockForm (withForm b c k r) .link j l ≡ getD r (j * 16 + l) 0
-  with-link j l h g = rw (with-parts .rows) (getD-take 1024 r (j * 16 + l) 0 (omega arith))
-
-  -- a well-formed form of at most 64 joints is put in whole
-  module _ {n v : ℕ} (high : v ≤ 64) (well : Well n v (listForm c k r)) where
-    none-behind : (j : ℕ) → 64 ≤ j → Smallest v (listForm c k r) j → ⊥
-    none-behind j h s = omega (arith, s .0)
-
-    pub with-form : SameForm (blockForm (withForm b c k r)) (listForm c k r)
-    with-form =
-        record {
-          class = λ j.
-              by-cases (decLt j 64)
-              (λ h. with-class j h)
-              (λ d. ends .class j (omega arith) ∙ sym (well .class-rest j (omega arith)));
-          kind = λ j.
-              by-cases (decLt j 64)
-              (λ h. with-kind j h)
-              (λ d. ends .kind j (omega arith) ∙ sym (well .kind-rest j (none-behind j (omega arith))));
-          link = λ j l g.
-              by-cases (decLt j 64)
-              (λ h. with-link j l h g)
-              (λ d. ends .link j l (omega arith) ∙ sym (well .link-rest j l (none-behind j (omega arith)) g));
-        }
-      where
-        ends : Ends (blockForm (withForm b c k r))
-        ends = block-ends (withForm b c k r)
+-- another form put into a block leaves its rig
+pub with-rig :
+    (b c k r : List ℕ) → length b ≡ blockSize → 64 ≤ length c → 64 ≤ length k → 1024 ≤ length r → rigOf (withForm b c k r) ≡ rigOf b
+with-rig b c k r size lc lk lr =
+    same-rig (withForm b c k r) b kinds
+    (ap (λ (n : ℕ). take (n * n) (roomOf (withForm b c k r))) kinds
+    ∙ ap (take (kindsOf b * kindsOf b)) (with-behind b c k r (omega arith) lc lk lr))
+    (with-front b c k r (omega arith) lc lk lr 1 (omega arith))
+  where
+    kinds : kindsOf (withForm b c k r) ≡ kindsOf b
+    kinds = with-front b c k r (omega arith) lc lk lr 0 (omega arith)
 
 -- what is said of a rig is said of an equal one
 pub at-rig : {R S : Rig} (X : Rig → Type 0) → R ≡ S → X R → X S
@@ -158,31 +76,22 @@ module _
     (c k r : List ℕ) (lc : 64 ≤ length c) (lk : 64 ≤ length k) (lr : 1024 ≤ length r)
     (well : Well (kindsOf b) (jointsOf b) (listForm c k r)) where
   pub stored-form : SameForm (blockForm (withForm b c k r)) (listForm c k r)
-  stored-form = with-form b c k r (g .size) lc lk lr (g .well .v-high) well
+  stored-form = with-form b c k r (omega (arith, g .size)) lc lk lr (g .well .v-high) well
 
   pub stored-good : GoodBlock (withForm b c k r)
   stored-good =
       record {
-        size = with-size b c k r (g .size) lc lk lr;
+        size = with-size b c k r (omega (arith, g .size)) lc lk lr ∙ g .size;
         well =
-            stays-well (g .well) (with-rig b c k r (g .size) lc lk lr) (with-behind b c k r (g .size) lc lk lr)
+            stays-well (g .well) (with-rig b c k r (g .size) lc lk lr)
+            (same-behind (withForm b c k r) b (with-behind b c k r (omega (arith, g .size)) lc lk lr))
             (form-well (form-sym stored-form) well);
       }
 
--- good blocks of one rig and one form are equal: byte by byte, in front, the form's three parts, the table, behind it
+-- good blocks of one rig and one form are equal: the session's own bytes, the table, behind it
 module _ {b b' : List ℕ} (g : GoodBlock b) (g' : GoodBlock b') (rig : rigOf b ≡ rigOf b') where
   kinds-one : kindsOf b ≡ kindsOf b'
   kinds-one = ap (λ (R : Rig). R .kinds) rig
-
-  front-same : (i : ℕ) → i < 2 → getD b i 0 ≡ getD b' i 0
-  front-same i h =
-      by-cases (decLt i 1)
-      (λ d. let e : i ≡ 0 = omega arith in rw e kinds-one)
-      (λ d. let e : i ≡ 1 = omega arith in rw e (ap (λ (R : Rig). R .joints) rig))
-
-  part-same : (m size : ℕ) → ((i : ℕ) → getD (take size (drop m b)) i 0 ≡ getD (take size (drop m b')) i 0) →
-      (i : ℕ) → m ≤ i → i < m + size → getD b i 0 ≡ getD b' i 0
-  part-same m size f i h k = byte-in m size b i h k ∙ f (i - m) ∙ sym (byte-in m size b' i h k)
 
   table-same : (i : ℕ) → sessionSize ≤ i → getD b i 0 ≡ getD b' i 0
   table-same i h =
@@ -195,18 +104,11 @@ module _ {b b' : List ℕ} (g : GoodBlock b) (g' : GoodBlock b') (rig : rigOf b 
       (λ d. g .well .zeros i (omega arith) ∙ sym (g' .well .zeros i (omega arith)))
 
   module _ (e : SameForm (blockForm b) (blockForm b')) where
-    rows-same : (i : ℕ) → getD (rowsOf b) i 0 ≡ getD (rowsOf b') i 0
-    rows-same i =
-        let q : i / 16 * 16 + i % 16 ≡ i = div-add-mod' i 16 in
-        rw q at (e .link (i / 16) (i % 16) (mod-lt i (omega arith)))
-
     byte-same : (i : ℕ) → getD b i 0 ≡ getD b' i 0
     byte-same i =
-        by-cases (decLt i 2) (λ h. front-same i h)
-        (λ d2. by-cases (decLt i 66) (λ h. part-same 2 64 (e .class) i (omega arith) h)
-        (λ d66. by-cases (decLt i 130) (λ h. part-same 66 64 (e .kind) i (omega arith) h)
-        (λ d130. by-cases (decLt i sessionSize) (λ h. part-same 130 1024 rows-same i (omega arith) h)
-        (λ d. table-same i (omega arith)))))
+        by-cases (decLt i sessionSize)
+        (λ h. own-same b b' kinds-one (ap (λ (R : Rig). R .joints) rig) e i h)
+        (λ d. table-same i (omega arith))
 
     pub same-bytes : b ≡ b'
     same-bytes = ext-getD 0 b b' (g .size ∙ sym (g' .size)) (λ i h. byte-same i)

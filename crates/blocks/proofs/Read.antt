@@ -3,7 +3,8 @@
 use mathlib.Core.Path.{_≡_, sym, subst}
 use mathlib.Core.List.{List}
 use Prim.Native.Nat.{ℕ}
-use Rattle.blocks.specs.Layout.{kindsOf, jointsOf, tableOf}
+use Rattle.joints.specs.Layout.{kindsOf, jointsOf}
+use Rattle.blocks.specs.Layout.{tableOf}
 
 pub record Read (b : List ℕ) (n v : ℕ) (table : List ℕ) : Type 0 where
   pub kinds : n ≡ kindsOf b

@@ -1,2 +1,3 @@
 pub mod Kinds
 pub mod Laws
+pub mod Sizes

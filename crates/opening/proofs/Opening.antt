@@ -13,10 +13,10 @@ use Rattle.replies.specs.declared.Reply.the-variants.{Done, Refused}
 use Rattle.replies.specs.Replies.{refuses, third}
 use Rattle.replies.proofs.Laws.{first-none, first-third, test-here, test-next, test-passed}
 use Rattle.tables.specs.Check.{firstBreach, tableReply, inOrder}
-use Rattle.tables.specs.Sizes.{Sized}
+use Rattle.kinds.specs.Sizes.{Sized}
 use Rattle.tables.proofs.Lawfulness.{passes-done}
+use Rattle.runs.specs.Runs.{within}
 use Rattle.blocks.specs.Layout.{blockSize, freshBlock}
-use Rattle.blocks.specs.WellFormed.{within}
 use Rattle.opening.specs.Open.{sizesFit, openReply, openBlock}
 
 both : (a b : Bool) → a && b ≡ true → (a ≡ true) × (b ≡ true)

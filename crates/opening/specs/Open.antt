@@ -9,8 +9,8 @@ use Rattle.replies.specs.declared.Cause.the-variants.{BadSize}
 use Rattle.replies.specs.declared.Reply.{Reply}
 use Rattle.replies.specs.Replies.{refuses, unless, firstRefusal}
 use Rattle.tables.specs.Check.{tableReply}
+use Rattle.runs.specs.Runs.{within}
 use Rattle.blocks.specs.Layout.{blockSize, freshBlock}
-use Rattle.blocks.specs.WellFormed.{within}
 
 -- n and V are in range, the table has n × n bytes, and the block its size
 abbrev pub sizesFit : ℕ → ℕ → List ℕ → List ℕ → Bool

@@ -1,26 +1,20 @@
--- A packet written from facts has four bytes for each; it is well formed where they are in range and at most 1,088, and it says exactly them:
--- each fact is read back from the four bytes that were written for it.
+-- A packet written from facts has four bytes for each, and says exactly them: each fact is read back from the four bytes that were written
+-- for it.
 -- Assumes nothing.
 use mathlib.Core.Path.{_≡_, refl, sym, ap, _∙_}
 use mathlib.Core.List.{List, [], _∷_, _++_, map, append-assoc}
-use Prim.Native.Nat.{ℕ, suc, _+_, _*_, _/_, _%_, _≤_}
+use Prim.Native.Nat.{ℕ, suc, _+_, _*_, _/_, _%_}
 use native.Mathlib.Omega.{arith}
-use lib.Dec.{leb}
 use lib.ListN.{length, getD, length-append, length-map}
 use lib.Seq.{getD-append-add}
-use borrow.Author.Tests.{eq-eqb, le-leb}
-use Rattle.replies.specs.declared.Reply.the-variants.{Done}
-use Rattle.replies.proofs.Laws.{first-none}
 use Rattle.runs.specs.Runs.{each}
 use Rattle.meaning.specs.declared.RigJoint.{RigJoint}
 use Rattle.meaning.specs.Picture.{Fact, rename}
 use Rattle.meaning.specs.Picture.Fact.{has-kind, same, leads}
 use Rattle.meaning.specs.Form.{rigJoint}
-use Rattle.meaning.specs.Solving.{AllInRange}
-use Rattle.packets.specs.Packet.{L, ties, joints, factAt, factCount, factsWanted, factFits, firstUnfit, packetReply}
+use Rattle.packets.specs.Packet.{byte, L, factAt, factCount}
 use Rattle.packets.specs.Facts.{factOf, rigFacts}
-use Rattle.packets.specs.FactsPacket.{factBytes, allBytes, lengthOf, factsPacket}
-use Rattle.packets.proofs.Converse.{Four, FactAt, both-true, packet-fits, fits-then, fact-read, fact-fits}
+use Rattle.packets.specs.FactsPacket.{factBytes, allBytes, factsPacket}
 
 -- four bytes a fact, and six before them
 pub fact-four : (f : Fact RigJoint) → length (factBytes f) ≡ 4
@@ -35,6 +29,25 @@ bytes-four (f ∷ fs) = length-append (factBytes f) (allBytes fs) ∙ omega (ari
 
 pub packet-size : (v : ℕ) (fs : List (Fact RigJoint)) → length (factsPacket v fs) ≡ 6 + 4 * length fs
 packet-size v fs = omega (arith, bytes-four fs)
+
+-- the four bytes at a place
+pub record Four (p : List ℕ) (at w x y z : ℕ) : Type 0 where
+  pub first : byte p at ≡ w
+  pub second : byte p (at + 1) ≡ x
+  pub third : byte p (at + 2) ≡ y
+  pub fourth : byte p (at + 3) ≡ z
+
+-- those of a fact
+abbrev pub FactAt : List ℕ → ℕ → Fact ℕ → Type 0
+FactAt p at (has-kind a s) = Four p at 1 a s 0
+FactAt p at (same a b) = Four p at 2 a b 0
+FactAt p at (leads a l c) = Four p at 3 a l c
+
+fact-read : {J : Type 0} (joint : ℕ → J) (p : List ℕ) (at : ℕ) (f : Fact ℕ) → FactAt p at f → factOf joint p at ≡ rename joint f
+unfolding factOf
+fact-read joint p at (has-kind a s) b = rw (b .first, b .second, b .third)
+fact-read joint p at (same a c) b = rw (b .first, b .second, b .third)
+fact-read joint p at (leads a l c) b = rw (b .first, b .second, b .third, b .fourth)
 
 -- the bytes of a fact stand behind what stands before them
 four-stand :
@@ -56,60 +69,49 @@ fact-stands q (has-kind a s) rest at e = four-stand q rest 1 a s 0 at e
 fact-stands q (same a c) rest at e = four-stand q rest 2 a c 0 at e
 fact-stands q (leads a l c) rest at e = four-stand q rest 3 a l c at e
 
--- from the i-th fact on, each fits and is read as it was written
-record ReadBack (n : ℕ) (p : List ℕ) (i : ℕ) (fs : List (Fact ℕ)) : Type 0 where
-  fits : firstUnfit (factFits n p) (factAt p) i (length fs) ≡ Done 0
-  says : each (λ k. factOf rigJoint p (factAt p k)) i (length fs) ≡ map (rename rigJoint) fs
+-- from the i-th fact on, the bytes of each stand at its place
+abbrev pub AllStand : List ℕ → ℕ → List (Fact ℕ) → Type 0
+AllStand p i [] = Unit {0}
+AllStand p i (f ∷ fs) = FactAt p (factAt p i) f × AllStand p (suc i) fs
 
-read-back :
-    (n : ℕ) (p q : List ℕ) (i : ℕ) (fs : List (Fact ℕ)) → p ≡ q ++ allBytes (map (rename rigJoint) fs) → factAt p i ≡ length q →
-    AllInRange n (joints p) fs → ReadBack n p i fs
-unfolding firstUnfit each allBytes
-read-back n p q i [] e h r = record { fits = first-none (Done 0); says = refl }
-read-back n p q i (f ∷ fs) e h r =
+all-stand :
+    (p q : List ℕ) (i : ℕ) (fs : List (Fact ℕ)) → p ≡ q ++ allBytes (map (rename rigJoint) fs) → factAt p i ≡ length q →
+    AllStand p i fs
+unfolding allBytes
+all-stand p q i [] e h = tt
+all-stand p q i (f ∷ fs) e h =
     let here = factBytes (rename rigJoint f) in
     let rest = allBytes (map (rename rigJoint) fs) in
     let stands : FactAt p (factAt p i) f = rw (← e) at (fact-stands q f rest (factAt p i) h) in
-    let next : ReadBack n p (suc i) fs =
-    read-back n p (q ++ here) (suc i) fs (e ∙ sym (append-assoc q here rest))
-    (omega (arith, length-append q here, fact-four (rename rigJoint f))) (r .1) in
-    record {
-      fits = fits-then (factFits n p) (factAt p) i (length fs) (fact-fits p (factAt p i) n f stands (r .0)) (next .fits);
-      says = cc (fact-read p (factAt p i) rigJoint f stands, next .says);
-    }
+    let next : factAt p (suc i) ≡ length (q ++ here) = omega (arith, length-append q here, fact-four (rename rigJoint f)) in
+    (stands, all-stand p (q ++ here) (suc i) fs (e ∙ sym (append-assoc q here rest)) next)
 
--- a packet of v joints that is written from facts in range, at most 1,088
-module _ (n v : ℕ) (fs : List (Fact ℕ)) (few : length fs ≤ 1088) (r : AllInRange n v fs) where
-  abbrev packet : List ℕ
-  packet = factsPacket v (map (rename rigJoint) fs)
+all-read :
+    (p : List ℕ) (i : ℕ) (fs : List (Fact ℕ)) → AllStand p i fs →
+    each (λ k. factOf rigJoint p (factAt p k)) i (length fs) ≡ map (rename rigJoint) fs
+unfolding each
+all-read p i [] s = refl
+all-read p i (f ∷ fs) s = cc (fact-read rigJoint p (factAt p i) f (s .0), all-read p (suc i) fs (s .1))
+
+-- a packet of v joints that is written from facts
+module _ (v : ℕ) (fs : List (Fact ℕ)) where
+  abbrev pub written : List ℕ
+  written = factsPacket v (map (rename rigJoint) fs)
 
   -- L is split into two bytes and put together again
-  L-is : L packet ≡ 4 + 4 * length fs
+  pub L-is : L written ≡ 4 + 4 * length fs
   L-is = omega (arith, length-map fs (rename rigJoint))
 
-  size-is : length packet ≡ 6 + 4 * length fs
+  pub size-is : length written ≡ 6 + 4 * length fs
   size-is = omega (arith, packet-size v (map (rename rigJoint) fs), length-map fs (rename rigJoint))
 
-  count-is : factCount packet ≡ length fs
+  pub count-is : factCount written ≡ length fs
   count-is = omega (arith, L-is)
 
-  all-read : ReadBack n packet 0 fs
-  all-read =
-      let h = lengthOf (length (map (rename rigJoint) fs)) in
-      read-back n packet (h / 256 ∷ h % 256 ∷ 1 ∷ 1 ∷ 0 ∷ v ∷ []) 0 fs refl refl r
+  pub written-stand : AllStand written 0 fs
+  written-stand =
+      let l = 4 + 4 * length (map (rename rigJoint) fs) in
+      all-stand written (l / 256 ∷ l % 256 ∷ 1 ∷ 1 ∷ 0 ∷ v ∷ []) 0 fs refl refl
 
-  pub written-well : packetReply (factsWanted v) n v packet ≡ Done 0
-  unfolding firstUnfit each
-  written-well =
-      packet-fits (factsWanted v) n v packet
-      (both-true _ _ (le-leb 6 (length packet) (omega (arith, size-is))) (eq-eqb (length packet) (L packet + 2) (omega (arith, size-is, L-is))))
-      refl refl refl
-      (both-true (leb v v) (leb v v) (le-leb v v (omega arith)) (le-leb v v (omega arith)))
-      (both-true _ _
-      (eq-eqb (L packet) (4 + 2 * ties packet + 4 * factCount packet) (omega (arith, L-is, count-is)))
-      (le-leb (factCount packet) 1088 (omega (arith, count-is))))
-      (first-none (Done 0))
-      (ap (firstUnfit (factFits n packet) (factAt packet) 0) count-is ∙ all-read .fits)
-
-  pub written-says : rigFacts packet ≡ map (rename rigJoint) fs
-  written-says = ap (each (λ k. factOf rigJoint packet (factAt packet k)) 0) count-is ∙ all-read .says
+  pub written-says : rigFacts written ≡ map (rename rigJoint) fs
+  written-says = ap (each (λ k. factOf rigJoint written (factAt written k)) 0) count-is ∙ all-read written 0 fs written-stand

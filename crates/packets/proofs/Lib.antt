@@ -1,5 +1,2 @@
-pub mod Packet
-pub mod WellFormed
 pub mod Facts
-pub mod Converse
 pub mod FactsPacket

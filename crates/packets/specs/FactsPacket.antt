@@ -17,10 +17,6 @@ unfoldable pub allBytes : List (Fact RigJoint) → List ℕ
 allBytes [] = []
 allBytes (f ∷ fs) = factBytes f ++ allBytes fs
 
--- L, the number of bytes behind the first two, of a packet of f facts with no ties
-abbrev pub lengthOf : ℕ → ℕ
-lengthOf f = 4 + 4 * f
-
--- a facts packet for v joints: L big-endian, version 1, purpose 1, no ties, the joint count, then the facts
+-- a facts packet for v joints: L = 4 + 4f big-endian, version 1, purpose 1, no ties, the joint count, then the facts
 abbrev pub factsPacket : ℕ → List (Fact RigJoint) → List ℕ
-factsPacket v fs = lengthOf (length fs) / 256 ∷ lengthOf (length fs) % 256 ∷ 1 ∷ 1 ∷ 0 ∷ v ∷ allBytes fs
+factsPacket v fs = (4 + 4 * length fs) / 256 ∷ (4 + 4 * length fs) % 256 ∷ 1 ∷ 1 ∷ 0 ∷ v ∷ allBytes fs

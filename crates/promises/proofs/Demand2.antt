@@ -15,7 +15,8 @@ use Rattle.meaning.specs.Rig.{NoPicture}
 use Rattle.meaning.specs.Rule.{Applies, RuledOut, verdictNumber}
 use Rattle.packets.specs.Facts.{rigFacts, ruleOf}
 use Rattle.reach.specs.Reached.{ReachReply}
-use Rattle.blocks.specs.Layout.{rigOf, taken}
+use Rattle.joints.specs.Layout.{taken}
+use Rattle.blocks.specs.Layout.{rigOf}
 use Rattle.taking.specs.Take.{Take, takeRefusal}
 use Rattle.taking.specs.Take.Take.{clashes}
 use Rattle.asking.specs.Ask.{Ask, askRefusal}

@@ -19,9 +19,10 @@ use Rattle.meaning.specs.Rig.{meetOf, Counts, NoPicture, SameMeaning}
 use Rattle.meaning.specs.Rule.{verdictNumber}
 use Rattle.meaning.proofs.Later.{members-follow}
 use Rattle.meaning.proofs.Facts.{all-append}
-use Rattle.packets.specs.Packet.{packetReply, factsWanted}
 use Rattle.packets.specs.Facts.{rigFacts}
-use Rattle.blocks.specs.Layout.{rigOf, taken}
+use Rattle.screening.specs.Screening.{packetReply, factsWanted}
+use Rattle.joints.specs.Layout.{taken}
+use Rattle.blocks.specs.Layout.{rigOf}
 use Rattle.blocks.proofs.Bytes.{at-rig, one-block}
 use Rattle.opening.specs.Open.{openBlock}
 use Rattle.taking.specs.Take.{Take, takeRefusal}

@@ -24,9 +24,9 @@ use Rattle.meaning.specs.Picture.Fact.{has-kind, leads}
 use Rattle.meaning.specs.Form.{rigJoint}
 use Rattle.meaning.specs.Rule.{Rule, ruleJoint, Found, Reached, Applies, RuledOut, Judged, verdictNumber}
 use Rattle.meaning.specs.Rule.Reached.{by-tie, by-link}
-use Rattle.packets.specs.Packet.{packetReply, ruleWanted, factFits, firstUnfit}
-use Rattle.runs.specs.Runs.{each}
 use Rattle.packets.specs.Facts.{ruleOf, factOf}
+use Rattle.screening.specs.Screening.{packetReply, ruleWanted, factFits, firstUnfit}
+use Rattle.runs.specs.Runs.{each}
 use Rattle.reach.specs.Reached.{ReachReply}
 use Rattle.reach.specs.Reached.SmallestNot.{all}
 use Rattle.asking.specs.Ask.{askRefusal, Ask}

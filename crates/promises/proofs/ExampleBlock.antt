@@ -11,7 +11,7 @@ use native.Mathlib.Decide.{ℕ-discrete, decLt}
 use native.Mathlib.Nat.{not-suc-le-zero, le-of-suc-le-suc}
 use lib.Dec.{T, eqb, leb, ltb, eqb→eq, leb→le, ltb→lt, lt→ltb, eqb-refl, lit≤}
 use lib.ListN.{length, getD, replicate}
-use Rattle.tables.specs.Sizes.{Sized}
+use Rattle.kinds.specs.Sizes.{Sized}
 use Rattle.house.specs.Meets.{houseTable}
 use Rattle.house.proofs.Rule.{house-passes}
 use Rattle.house.proofs.Tests.{and-left, and-right, or-cases, allBelow, below}
@@ -22,8 +22,9 @@ use Rattle.meaning.specs.Form.{Form, listForm, unknown, linksFrom, factsAt, fac
 use Rattle.meaning.specs.Solving.{Smallest, Well}
 use Rattle.meaning.specs.Rig.{Rig}
 use Rattle.meaning.proofs.SameForm.{SameForm, form-facts, form-classes}
-use Rattle.blocks.specs.Layout.{blockForm, rigOf, taken, classCount}
-use Rattle.blocks.specs.Storing.{withForm}
+use Rattle.joints.specs.Layout.{blockForm, taken, classCount}
+use Rattle.joints.specs.Storing.{withForm}
+use Rattle.blocks.specs.Layout.{rigOf}
 use Rattle.blocks.proofs.Shape.{GoodBlock}
 use Rattle.blocks.proofs.Bytes.{with-rig, stored-form, stored-good}
 use Rattle.blocks.proofs.Fresh.{fresh-good, fresh-table, fresh-facts, fresh-classes}

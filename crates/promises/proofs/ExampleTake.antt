@@ -18,10 +18,11 @@ use Rattle.meaning.specs.Picture.{Picture, Fact, All}
 use Rattle.meaning.specs.Rig.{Rig, NoPicture, SameMeaning}
 use Rattle.meaning.specs.Picture.Fact.{has-kind, leads}
 use Rattle.meaning.specs.Form.{rigJoint}
-use Rattle.packets.specs.Packet.{packetReply, factsWanted, factFits, firstUnfit}
-use Rattle.runs.specs.Runs.{each}
 use Rattle.packets.specs.Facts.{rigFacts, factOf}
-use Rattle.blocks.specs.Layout.{rigOf, taken}
+use Rattle.screening.specs.Screening.{packetReply, factsWanted, factFits, firstUnfit}
+use Rattle.runs.specs.Runs.{each}
+use Rattle.joints.specs.Layout.{taken}
+use Rattle.blocks.specs.Layout.{rigOf}
 use Rattle.blocks.proofs.Shape.{GoodBlock, block-done, put-together}
 use Rattle.blocks.proofs.Bytes.{at-rig}
 use Rattle.taking.specs.Take.{takeRefusal, Take}

@@ -14,7 +14,8 @@ use Rattle.house.proofs.Rule.{house-passes}
 use Rattle.house.proofs.Examples as house
 use Rattle.meaning.specs.Rig.{Rig}
 use Rattle.packets.specs.FactsPacket.{factsPacket, allBytes}
-use Rattle.blocks.specs.Layout.{blockSize, taken}
+use Rattle.joints.specs.Layout.{taken}
+use Rattle.blocks.specs.Layout.{blockSize}
 use Rattle.opening.specs.Open.{sizesFit, openReply, openBlock}
 use Rattle.opening.proofs.Opening.{then-table, is-fresh}
 use Rattle.writing.specs.Write.{solvedForm, writeReply, writtenOutput}

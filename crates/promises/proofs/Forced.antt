@@ -23,11 +23,13 @@ use Rattle.meaning.proofs.Facts.{byNumber, all-append, all-left, all-right, all
 use Rattle.meaning.proofs.Later.{each-holds}
 use Rattle.meaning.proofs.Canon.{canon, canon-rig-placing, canon-taken, class-smallest, element-smallest, initial, map-all, atClass}
 use Rattle.runs.proofs.Each.{among}
-use Rattle.packets.specs.Packet.{joints, packetReply, factsWanted, factCount, factAt}
+use Rattle.packets.specs.Packet.{joints, factCount, factAt}
 use Rattle.packets.specs.Facts.{factOf, rigFacts}
 use Rattle.packets.proofs.Facts.{fact-named}
-use Rattle.packets.proofs.WellFormed.{well-formed}
-use Rattle.blocks.specs.Layout.{kindsOf, jointsOf, blockForm, rigOf, taken}
+use Rattle.screening.specs.Screening.{packetReply, factsWanted}
+use Rattle.screening.proofs.WellFormed.{well-formed}
+use Rattle.joints.specs.Layout.{kindsOf, jointsOf, blockForm, taken}
+use Rattle.blocks.specs.Layout.{rigOf}
 use Rattle.blocks.specs.WellFormed.{Stands}
 use Rattle.blocks.proofs.Shape.{GoodBlock, stands-good, block-rig}
 use Rattle.blocks.proofs.Bytes.{at-rig}

@@ -21,7 +21,7 @@ use Rattle.asking.proofs.OneAsk.{ask-one}
 use Rattle.writing.specs.Write.{writeReply}
 use Rattle.writing.proofs.Writing.{write-third}
 use Rattle.vornulica.specs.House.{houseReply}
-use Rattle.vornulica.specs.Host.{TakeNumber, AskNumber}
+use Rattle.vornulica.specs.Host.{HostNumber}
 use Rattle.vornulica.proofs.Thirds.{small, take-third, ask-third}
 use Rattle.promises.specs.HostReplies.{Splits}
 use Rattle.promises.proofs.Readings.{number-few, reads-one}
@@ -67,12 +67,12 @@ pub open-number : {x : ℕ} (n v : ℕ) (table b : List ℕ) → x ≡ packed (o
 open-number n v table b e = handed (openReply n v table b) (small (openReply n v table b) (open-third n v table b)) e
 
 -- what `rig_take` hands the host, with the reply that the contract of taking allows
-pub take-number : {b p after after' : List ℕ} {x : ℕ} {r : Reply} → TakeNumber b p x after → Take b p r after' → Splits x r
-take-number {r = r} s t = handed r (take-third t) (s .told ∙ ap packed (take-one (s .takes) t .0))
+pub take-number : {b p after after' : List ℕ} {x : ℕ} {r : Reply} → HostNumber (λ r. Take b p r after) x → Take b p r after' → Splits x r
+take-number {r = r} s t = handed r (take-third t) (s .told ∙ ap packed (take-one (s .allowed) t .0))
 
 -- what `rig_ask` hands the host, with the reply that the contract of asking allows
-pub ask-number : {b p : List ℕ} {x : ℕ} {r : Reply} → AskNumber b p x → Ask b p r → Splits x r
-ask-number {r = r} s t = handed r (ask-third t) (s .told ∙ ap packed (ask-one (s .asks) t))
+pub ask-number : {b p : List ℕ} {x : ℕ} {r : Reply} → HostNumber (λ r. Ask b p r) x → Ask b p r → Splits x r
+ask-number {r = r} s t = handed r (ask-third t) (s .told ∙ ap packed (ask-one (s .allowed) t))
 
 -- what `rig_write` hands the host
 pub write-number : {x : ℕ} (b out : List ℕ) → x ≡ packed (writeReply b out) → Splits x (writeReply b out)
@@ -90,9 +90,9 @@ house-number buffer e = handed (houseReply buffer) (small (houseReply buffer) (b
 
 -- the same number, and the same block afterwards
 pub take-number-one :
-    {b p after after' : List ℕ} {x y : ℕ} → TakeNumber b p x after → TakeNumber b p y after' → (x ≡ y) × (after ≡ after')
-take-number-one s t = let e = take-one (s .takes) (t .takes) in (s .told ∙ ap packed (e .0) ∙ sym (t .told), e .1)
+    {b p after after' : List ℕ} {x y : ℕ} → HostNumber (λ r. Take b p r after) x → HostNumber (λ r. Take b p r after') y → (x ≡ y) × (after ≡ after')
+take-number-one s t = let e = take-one (s .allowed) (t .allowed) in (s .told ∙ ap packed (e .0) ∙ sym (t .told), e .1)
 
 -- the same number
-pub ask-number-one : {b p : List ℕ} {x y : ℕ} → AskNumber b p x → AskNumber b p y → x ≡ y
-ask-number-one s t = s .told ∙ ap packed (ask-one (s .asks) (t .asks)) ∙ sym (t .told)
+pub ask-number-one : {b p : List ℕ} {x y : ℕ} → HostNumber (λ r. Ask b p r) x → HostNumber (λ r. Ask b p r) y → x ≡ y
+ask-number-one s t = s .told ∙ ap packed (ask-one (s .allowed) (t .allowed)) ∙ sym (t .told)

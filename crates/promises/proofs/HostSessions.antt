@@ -15,10 +15,11 @@ use Rattle.meaning.specs.declared.Verdict.the-variants as verdict
 use Rattle.meaning.specs.Picture.{Picture, Placing, All}
 use Rattle.meaning.specs.Rig.{meetOf, Counts}
 use Rattle.meaning.specs.Rule.{verdictNumber}
-use Rattle.packets.specs.Packet.{packetReply, factsWanted}
 use Rattle.packets.specs.Facts.{rigFacts}
+use Rattle.screening.specs.Screening.{packetReply, factsWanted}
+use Rattle.taking.specs.Take.{Take}
 use Rattle.asking.specs.Ask.{Ask}
-use Rattle.vornulica.specs.Host.{TakeNumber, AskNumber}
+use Rattle.vornulica.specs.Host.{HostNumber}
 use Rattle.vornulica.proofs.Thirds.{take-third, ask-third}
 use Rattle.promises.specs.Sessions.{Sent, Calls, Session, openedRig, factsTaken, SameFacts}
 use Rattle.promises.proofs.Later.{verdict-stays}
@@ -29,16 +30,16 @@ use Rattle.promises.proofs.Demand3.{clash-stays, same-answers, no-clash
 -- "a rule that once applies or is ruled out .. gets that verdict at every later asking"
 module _ {b c p : List ℕ} {sent : List Sent} {x y : ℕ} where
   stays :
-      (v : Verdict) → v ≢ verdict.Waits → verdictNumber v < 2 ^ 24 → AskNumber b p x → x ≡ packed (Done (verdictNumber v)) → Calls b sent c →
-      AskNumber c p y → y ≡ packed (Done (verdictNumber v))
+      (v : Verdict) → v ≢ verdict.Waits → verdictNumber v < 2 ^ 24 → HostNumber (λ r. Ask b p r) x → x ≡ packed (Done (verdictNumber v)) → Calls b sent c →
+      HostNumber (λ r. Ask c p r) y → y ≡ packed (Done (verdictNumber v))
   stays v d few first e calls later =
-      let reply = packed-one (first .reply) (Done (verdictNumber v)) (ask-third (first .asks)) few (sym (first .told) ∙ e) in
-      later .told ∙ ap packed (verdict-stays v d (subst (λ (r : Reply). Ask b p r) reply (first .asks)) calls (later .asks))
+      let reply = packed-one (first .reply) (Done (verdictNumber v)) (ask-third (first .allowed)) few (sym (first .told) ∙ e) in
+      later .told ∙ ap packed (verdict-stays v d (subst (λ (r : Reply). Ask b p r) reply (first .allowed)) calls (later .allowed))
 
-  pub host-applies-stays : AskNumber b p x → x ≡ 256 → Calls b sent c → AskNumber c p y → y ≡ 256
+  pub host-applies-stays : HostNumber (λ r. Ask b p r) x → x ≡ 256 → Calls b sent c → HostNumber (λ r. Ask c p r) y → y ≡ 256
   host-applies-stays = stays verdict.Applies (λ e. omega (arith, ap verdictNumber e)) (omega arith)
 
-  pub host-ruled-out-stays : AskNumber b p x → x ≡ 512 → Calls b sent c → AskNumber c p y → y ≡ 512
+  pub host-ruled-out-stays : HostNumber (λ r. Ask b p r) x → x ≡ 512 → Calls b sent c → HostNumber (λ r. Ask c p r) y → y ≡ 512
   host-ruled-out-stays = stays verdict.RuledOut (λ e. omega (arith, ap verdictNumber e)) (omega arith)
 
 -- the lowest byte of the host's number is the reply's number
@@ -47,18 +48,18 @@ low-byte r few = sym (packed-splits r few .number-is)
 
 -- "and a packet refused for a clash is refused for a clash at every later sending"
 pub host-clash-stays :
-    {b c p after again : List ℕ} {sent : List Sent} {x y : ℕ} → TakeNumber b p x after → x % 256 ≡ 11 → Calls b sent c →
-    TakeNumber c p y again → (y % 256 ≡ 11) × (again ≡ c)
+    {b c p after again : List ℕ} {sent : List Sent} {x y : ℕ} → HostNumber (λ r. Take b p r after) x → x % 256 ≡ 11 → Calls b sent c →
+    HostNumber (λ r. Take c p r again) y → (y % 256 ≡ 11) × (again ≡ c)
 host-clash-stays first e calls later =
-    let eleven = sym (low-byte (first .reply) (take-third (first .takes))) ∙ ap (λ (z : ℕ). z % 256) (sym (first .told)) ∙ e in
-    let still = clash-stays (first .takes) eleven calls (later .takes) in
-    (ap (λ (z : ℕ). z % 256) (later .told) ∙ low-byte (later .reply) (take-third (later .takes)) ∙ still .0 .number-is, still .1)
+    let eleven = sym (low-byte (first .reply) (take-third (first .allowed))) ∙ ap (λ (z : ℕ). z % 256) (sym (first .told)) ∙ e in
+    let still = clash-stays (first .allowed) eleven calls (later .allowed) in
+    (ap (λ (z : ℕ). z % 256) (later .told) ∙ low-byte (later .reply) (take-third (later .allowed)) ∙ still .0 .number-is, still .1)
 
 -- "Two sessions .. give every rule the same answer"
 pub host-same-answers :
     {n n' v : ℕ} {table b b' p : List ℕ} {sent sent' : List Sent} {x y : ℕ} → Session n v table sent b → Session n' v table sent' b' →
-    SameFacts (factsTaken sent) (factsTaken sent') → AskNumber b p x → AskNumber b' p y → x ≡ y
-host-same-answers s s' same a a' = a .told ∙ ap packed (same-answers s s' same (a .asks) (a' .asks)) ∙ sym (a' .told)
+    SameFacts (factsTaken sent) (factsTaken sent') → HostNumber (λ r. Ask b p r) x → HostNumber (λ r. Ask b' p r) y → x ≡ y
+host-same-answers s s' same a a' = a .told ∙ ap packed (same-answers s s' same (a .allowed) (a' .allowed)) ∙ sym (a' .told)
 
 -- "If all packets sent are well formed and one rig satisfies all their facts, no order of sending has one refused for a clash."
 pub host-no-clash :

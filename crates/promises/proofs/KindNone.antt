@@ -20,7 +20,7 @@ use Rattle.meaning.proofs.Facts.{all-right, all-member}
 use Rattle.packets.specs.Facts.{rigFacts, ruleOf}
 use Rattle.reach.specs.Reached.{ReachReply}
 use Rattle.meaning.proofs.Rigs.{LawfulRig}
-use Rattle.blocks.specs.Layout.{taken}
+use Rattle.joints.specs.Layout.{taken}
 use Rattle.taking.specs.Take.{Take, takeRefusal}
 use Rattle.asking.specs.Ask.{Ask, askRefusal}
 use Rattle.blocks.proofs.Shape.{block-rig}

@@ -16,10 +16,11 @@ use Rattle.meaning.specs.declared.Verdict.the-variants as verdict
 use Rattle.meaning.specs.Rig.{Rig, NoPicture}
 use Rattle.meaning.specs.Rule.{Applies, RuledOut, Judged, verdictNumber}
 use Rattle.meaning.proofs.Later.{Follows, meaning-follows, follows-append, no-picture-later, applies-later, ruled-out-later}
-use Rattle.packets.specs.Packet.{packetReply, factsWanted, ruleWanted}
 use Rattle.packets.specs.Facts.{rigFacts, ruleOf}
+use Rattle.screening.specs.Screening.{packetReply, factsWanted, ruleWanted}
 use Rattle.reach.specs.Reached.{ReachReply}
-use Rattle.blocks.specs.Layout.{rigOf, taken}
+use Rattle.joints.specs.Layout.{taken}
+use Rattle.blocks.specs.Layout.{rigOf}
 use Rattle.blocks.specs.WellFormed.{blockReply}
 use Rattle.blocks.proofs.Shape.{GoodBlock, block-done}
 use Rattle.blocks.proofs.Bytes.{at-rig}

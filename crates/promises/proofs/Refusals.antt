@@ -5,22 +5,25 @@ use mathlib.Core.Path.{_≡_, refl, sym, _∙_, ap}
 use mathlib.Core.Logic.{_≢_}
 use mathlib.Core.Bool.{Bool, true, false, _||_, true≢false, false≢true}
 use mathlib.Core.List.{List, [], _∷_, _++_, map}
-use Prim.Native.Nat.{ℕ, zero, suc}
-use lib.Dec.{eqb}
-use lib.ListN.{length}
+use Prim.Native.Nat.{ℕ, zero, suc, _+_, _*_}
+use lib.Dec.{eqb, ltb}
+use lib.ListN.{length, getD}
 use Rattle.replies.specs.declared.Cause.{Cause}
-use Rattle.replies.specs.declared.Cause.the-variants.{BadSize, BadBlock, BadLength, BadVersion, BadHeader, BadCount, BadPart}
+use Rattle.replies.specs.declared.Cause.the-variants.{BadSize, NoKind, LawBroken, BadBlock, BadLength, BadVersion, BadHeader, BadCount, BadPart}
 use Rattle.replies.specs.declared.Reply.{Reply}
 use Rattle.replies.specs.declared.Reply.the-variants.{Done}
 use Rattle.replies.specs.Replies.{causeNumber, number, unless, firstRefusal}
 use Rattle.replies.proofs.Laws.{Each, first-holds}
-use Rattle.runs.specs.Runs.{each}
-use Rattle.tables.specs.Check.{Law, keeps, breachCause, breachPlace, lawReply, firstBreach, tableReply, inOrder}
+use Rattle.runs.specs.Runs.{each, within}
+use Rattle.kinds.specs.Kinds.{meetAt}
+use Rattle.tables.specs.Check.{Law, lawReply, firstBreach, tableReply, inOrder}
 use Rattle.tables.specs.Check.Law.{entry, self, none, any, swap, group}
-use Rattle.packets.specs.declared.Wanted.{Wanted}
-use Rattle.packets.specs.Packet.{version, purpose, ties, joints, tieAt, factAt, factCount, lengthFits, countFits, within, tieFits, factFits}
-use Rattle.packets.specs.Packet.{firstUnfit, factsReply, packetReply, factsWanted, ruleWanted}
-use Rattle.blocks.specs.Layout.{blockSize, kindsOf, jointsOf}
+use Rattle.packets.specs.Packet.{byte, ties, joints, tieAt, factAt, factCount}
+use Rattle.screening.specs.declared.Wanted.{Wanted}
+use Rattle.screening.specs.Screening.{lengthFits, countFits, tieFits, factFits}
+use Rattle.screening.specs.Screening.{firstUnfit, firstBadFact, packetReply, factsWanted, ruleWanted}
+use Rattle.joints.specs.Layout.{kindsOf, jointsOf}
+use Rattle.blocks.specs.Layout.{blockSize}
 use Rattle.blocks.specs.WellFormed.{wellFormed, blockReply}
 use Rattle.opening.specs.Open.{sizesFit, openReply}
 use Rattle.taking.specs.Take.{takeRefusal}
@@ -51,22 +54,23 @@ module _ (numbers : List ℕ) where
 
 -- the reply to a table
 pub open-gives : (n v : ℕ) (table b : List ℕ) → gives openNumbers (openReply n v table b) ≡ true
-unfolding openReply firstBreach listed
+unfolding openReply lawReply firstBreach listed
 open-gives n v table b =
     first-gives openNumbers _ (tableReply n table) (unless-gives openNumbers (sizesFit n v table b) BadSize 0 refl refl, tt)
     (first-gives openNumbers _ (Done 0) (laws-give (inOrder n)) refl)
   where
-    law-gives : (x : Law) → listed openNumbers (causeNumber (breachCause x)) ≡ true
-    law-gives (entry p) = refl
-    law-gives (self i) = refl
-    law-gives (none i) = refl
-    law-gives (any i) = refl
-    law-gives (swap i j) = refl
-    law-gives (group i j k) = refl
+    law-gives : (law : Law) → gives openNumbers (lawReply n table law) ≡ true
+    law-gives (entry p) = unless-gives openNumbers (ltb (getD table p 0) n) NoKind p refl refl
+    law-gives (self i) = unless-gives openNumbers (eqb (meetAt n table i i) i) LawBroken (i * n + i) refl refl
+    law-gives (none i) = unless-gives openNumbers (eqb (meetAt n table 0 i) 0) LawBroken (0 * n + i) refl refl
+    law-gives (any i) = unless-gives openNumbers (eqb (meetAt n table 1 i) i) LawBroken (1 * n + i) refl refl
+    law-gives (swap i j) = unless-gives openNumbers (eqb (meetAt n table i j) (meetAt n table j i)) LawBroken (i * n + j) refl refl
+    law-gives (group i j k) =
+        unless-gives openNumbers (eqb (meetAt n table (meetAt n table i j) k) (meetAt n table i (meetAt n table j k))) LawBroken (i * n + j) refl refl
 
     laws-give : (order : List Law) → Each (λ r. gives openNumbers r ≡ true) (map (lawReply n table) order)
     laws-give [] = tt
-    laws-give (x ∷ xs) = (unless-gives openNumbers (keeps n table x) (breachCause x) (breachPlace n x) refl (law-gives x), laws-give xs)
+    laws-give (x ∷ xs) = (law-gives x, laws-give xs)
 
 -- the reply to a block, which is 0, 1 or 4
 pub block-gives :
@@ -98,16 +102,16 @@ module _ (w : Wanted) (n v : ℕ) (p : List ℕ) where
   unfolding packetReply listed
   packet-gives =
       let test = unless-gives earlyNumbers in
-      first-gives earlyNumbers _ (factsReply n p) (
+      first-gives earlyNumbers _ (firstBadFact n p) (
         test (lengthFits p) BadLength 0 refl refl,
         (
-          test (eqb (version p) 1) BadVersion 2 refl refl,
+          test (eqb (byte p 2) 1) BadVersion 2 refl refl,
           (
-            test (eqb (purpose p) (w .purpose)) BadHeader 3 refl refl,
+            test (eqb (byte p 3) (w .purpose)) BadHeader 3 refl refl,
             (
-              test (within (w .ties) (ties p)) BadHeader 4 refl refl,
+              test (within (w .ties .from) (w .ties .to) (ties p)) BadHeader 4 refl refl,
               (
-                test (within (w .joints) (joints p)) BadHeader 5 refl refl,
+                test (within (w .joints .from) (w .joints .to) (joints p)) BadHeader 5 refl refl,
                 (
                   test (countFits p) BadCount 0 refl refl,
                   (unfit-gives (tieFits v p) tieAt 0 (ties p), tt),

@@ -14,18 +14,21 @@ use borrow.Author.Tests.{eqb-true, eqb-false, eq-eqb, le-leb}
 use Rattle.replies.specs.declared.Reply.{Reply}
 use Rattle.replies.specs.declared.Reply.the-variants.{Done}
 use Rattle.replies.specs.Replies.{refuses}
-use Rattle.tables.specs.Sizes.{Sized}
+use Rattle.kinds.specs.Sizes.{Sized}
 use Rattle.meaning.specs.declared.RigJoint.{RigJoint}
 use Rattle.meaning.specs.Picture.{Fact, rename}
 use Rattle.meaning.specs.Form.{Form, unknown, linksFrom, factsAt, factsFrom, rigJoint}
 use Rattle.meaning.specs.Solving.{Smallest, Well, AllInRange}
 use Rattle.meaning.specs.Rig.{SameMeaning}
-use Rattle.packets.specs.Packet.{factsWanted, packetReply}
 use Rattle.packets.specs.Facts.{rigFacts}
-use Rattle.packets.proofs.Converse.{both-true}
-use Rattle.packets.proofs.FactsPacket.{written-well, written-says}
-use Rattle.blocks.specs.Layout.{blockSize, kindsOf, jointsOf, tableOf, blockForm, rigOf, taken, classCount, freshBlock}
-use Rattle.blocks.specs.WellFormed.{within, blockReply}
+use Rattle.packets.proofs.FactsPacket.{written-says}
+use Rattle.screening.specs.Screening.{factsWanted, packetReply}
+use Rattle.screening.proofs.Converse.{both-true}
+use Rattle.screening.proofs.Written.{written-well}
+use Rattle.joints.specs.Layout.{kindsOf, jointsOf, blockForm, taken, classCount}
+use Rattle.runs.specs.Runs.{within}
+use Rattle.blocks.specs.Layout.{blockSize, tableOf, rigOf, freshBlock}
+use Rattle.blocks.specs.WellFormed.{blockReply}
 use Rattle.blocks.proofs.Shape.{GoodBlock, good-block, put-together, block-sized, block-done}
 use Rattle.blocks.proofs.Bytes.{same-rig}
 use Rattle.blocks.proofs.Fresh.{fresh-good, fresh-table, fresh-facts, fresh-classes}
@@ -92,7 +95,7 @@ module _ {b : List ℕ} (g : GoodBlock b) where
 
   -- and says exactly the taken facts
   pub solved-form-says : rigFacts (solvedForm b) ≡ taken b
-  solved-form-says = written-says (kindsOf b) (jointsOf b) (factsFrom (blockForm b) 0 (jointsOf b)) few in-range
+  solved-form-says = written-says (jointsOf b) (factsFrom (blockForm b) 0 (jointsOf b))
 
   sized : Sized (kindsOf b) (tableOf b)
   sized = block-sized (g .well) (g .size)

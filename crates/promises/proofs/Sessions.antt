@@ -17,9 +17,10 @@ use Rattle.meaning.specs.Picture.{Picture, Fact, All}
 use Rattle.meaning.specs.Rig.{Rig, meetOf, SameMeaning}
 use Rattle.meaning.specs.Rig.Profile.{every}
 use Rattle.meaning.proofs.Facts.{all-append, all-left, all-right}
-use Rattle.packets.specs.Packet.{packetReply, factsWanted}
 use Rattle.packets.specs.Facts.{rigFacts}
-use Rattle.blocks.specs.Layout.{rigOf, taken, freshBlock}
+use Rattle.screening.specs.Screening.{packetReply, factsWanted}
+use Rattle.joints.specs.Layout.{taken}
+use Rattle.blocks.specs.Layout.{rigOf, freshBlock}
 use Rattle.blocks.proofs.Shape.{GoodBlock, block-done, stands-itself}
 use Rattle.blocks.proofs.Bytes.{at-rig}
 use Rattle.blocks.proofs.Fresh.{fresh-good, fresh-table, fresh-facts}

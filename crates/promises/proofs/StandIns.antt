@@ -19,7 +19,8 @@ use Rattle.meaning.proofs.Later.{Follows}
 use Rattle.meaning.proofs.Facts.{all-right}
 use Rattle.packets.specs.Facts.{rigFacts, ruleOf}
 use Rattle.reach.specs.Reached.{ReachReply}
-use Rattle.blocks.specs.Layout.{rigOf, taken, classCount}
+use Rattle.joints.specs.Layout.{taken, classCount}
+use Rattle.blocks.specs.Layout.{rigOf}
 use Rattle.blocks.proofs.Bytes.{at-rig}
 use Rattle.taking.specs.Take.{After, Take, takeRefusal}
 use Rattle.taking.specs.Take.Take.{refused as take-refused, clashes, done}

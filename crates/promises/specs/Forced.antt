@@ -11,7 +11,8 @@ use Rattle.meaning.specs.Picture.{Picture, Placing, Fact, Holds, All}
 use Rattle.meaning.specs.Picture.Fact.{has-kind, same, leads}
 use Rattle.meaning.specs.Form.{Form}
 use Rattle.meaning.specs.Rig.{Rig, meetOf, Counts}
-use Rattle.blocks.specs.Layout.{blockForm, rigOf, taken}
+use Rattle.joints.specs.Layout.{blockForm, taken}
+use Rattle.blocks.specs.Layout.{rigOf}
 use Rattle.blocks.specs.WellFormed.{Stands}
 
 -- the facts force f: it holds in every picture and placing that satisfy them

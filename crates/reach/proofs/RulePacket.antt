@@ -10,10 +10,11 @@ use Rattle.meaning.specs.Picture.{Fact, rename}
 use Rattle.meaning.specs.Picture.Fact.{has-kind, same, leads}
 use Rattle.meaning.specs.Rule.{ruleJoint}
 use Rattle.meaning.specs.Solving.{InRange}
-use Rattle.packets.specs.Packet.{byte, ties, joints, tieAt, factAt, factCount, ruleWanted}
+use Rattle.packets.specs.Packet.{byte, ties, joints, tieAt, factAt, factCount}
 use Rattle.packets.specs.Facts.{factOf}
-use Rattle.packets.proofs.WellFormed.{WellFormed, well-formed}
 use Rattle.packets.proofs.Facts.{fact-named}
+use Rattle.screening.specs.Screening.{ruleWanted}
+use Rattle.screening.proofs.WellFormed.{WellFormed, well-formed}
 use Rattle.reach.specs.Marking.{RulePacket, nthFact}
 
 -- the numbers of a link that is in range

@@ -13,8 +13,9 @@ use Rattle.meaning.specs.Picture.Fact.{leads}
 use Rattle.meaning.specs.Rule.{Reached, ruleJoint}
 use Rattle.reach.specs.declared.Marks.{Marks}
 use Rattle.replies.specs.declared.Reply.the-variants.{Done}
-use Rattle.packets.specs.Packet.{byte, ties, tieAt, factAt, factCount, ruleWanted, packetReply}
+use Rattle.packets.specs.Packet.{byte, ties, tieAt, factAt, factCount}
 use Rattle.packets.specs.Facts.{factOf, ruleOf}
+use Rattle.screening.specs.Screening.{ruleWanted, packetReply}
 
 -- a packet for asking that no reply from 5 to 9 refuses, for some number of kinds and of rig joints
 pub record RulePacket (p : List ℕ) : Type 0 where

@@ -7,6 +7,7 @@ ghost use Rattle.blocks.specs.Layout.{blockSize};
 ghost use Rattle.lines.specs.Text.{line, longestWord, room, holding};
 ghost use Rattle.rigcheck.specs.declared.Step.the-variants.{Packet};
 ghost use Rattle.rigcheck.specs.Lines.{isFacts, Answered, longest, stepOf, goesOn, Turn, Opening};
+use blocks::BLOCK;
 use lines::Line;
 use replies::Cause;
 use replies::Reply;
@@ -16,8 +17,6 @@ const LONGEST: usize = 4372;
 
 // The same packet with its two bytes of L.
 const LONGEST_PACKET: usize = 4374;
-
-const BLOCK: usize = 5250;
 
 const HOUSE_KINDS: u64 = 33;
 

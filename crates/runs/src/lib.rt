@@ -2,7 +2,7 @@
 ghost use mathlib.Core.Path.{_≡_};
 ghost use mathlib.Core.Bool.{true, false};
 ghost use lib.ListN.{length, replicate};
-ghost use Rattle.runs.specs.Runs.{allZero};
+ghost use Rattle.runs.specs.Runs.{allZero, within};
 
 // x at every place.
 pub fn repeat(to: &mut [u8], x: u8)
@@ -44,4 +44,14 @@ pub fn same(a: &[u8], b: &[u8]) -> bool
         any = any | (a[i] ^ b[i]);
     }
     any == 0
+}
+
+// Whether x is from low to high.
+pub fn in_range(x: usize, low: usize, high: usize) -> bool
+    ensures { λ r. ⌜ r ≡ within low high x ⌝ }
+{
+    if x < low {
+        return false;
+    }
+    x <= high
 }

@@ -1,37 +1,73 @@
 -- Loops that stop at the first breach: the reply is that to what is left of the laws, and each turn leaves one part less.
 -- Assumes nothing.
 use mathlib.Core.Path.{_≡_, refl, ap, _∙_, sym}
-use mathlib.Core.Bool.{true, false}
+use mathlib.Core.Bool.{Bool, true, false}
 use mathlib.Core.List.{List, [], _∷_, _++_, map, map-append, append-assoc, append-nil}
 use Prim.Native.Nat.{ℕ, zero, suc, _+_, _-_, _≤_, _<_}
 use native.Mathlib.Omega.{arith}
 use native.Mathlib.Numerals.{add-one}
+use lib.Dec.{eqb}
+use borrow.Author.Tests.{eq-eqb, ne-eqb, eqb-true}
 use Rattle.replies.specs.declared.Cause.{Cause}
 use Rattle.replies.specs.declared.Reply.{Reply}
 use Rattle.replies.specs.declared.Reply.the-variants.{Done, Refused}
-use Rattle.replies.specs.Replies.{refuses, firstRefusal}
-use Rattle.replies.proofs.Laws.{first-none, first-front, front-refuses, front-passes, test-here, test-next}
-use Rattle.tables.specs.Check.{Law, keeps, breachCause, breachPlace, lawReply, from, forEach, firstBreach}
+use Rattle.replies.specs.Replies.{refuses, unless, firstRefusal}
+use Rattle.replies.proofs.Laws.{first-none, first-front, front-refuses, front-passes, first-here, first-next, unless-passed}
+use Rattle.tables.specs.Check.{Law, lawReply, forEach, firstBreach}
 
--- the reply to the breach of a law
-abbrev pub breach : ℕ → Law → Reply
-breach n law = Refused (breachCause law) (breachPlace n law)
+-- the laws of f at i, i + 1, .., count of them
+from : (ℕ → List Law) → ℕ → ℕ → List Law
+from f i zero = []
+from f i (suc count) = f i ++ from f (suc i) count
 
 -- what is left at i of the laws of f for each i below m
-abbrev pub rest : (ℕ → List Law) → ℕ → ℕ → List Law
+pub rest : (ℕ → List Law) → ℕ → ℕ → List Law
 rest f i m = from f i (m - i)
 
-module _ (f : ℕ → List Law) {i m : ℕ} where
-  rest-step : i < m → rest f i m ≡ f i ++ rest f (i + 1) m
+module _ (f : ℕ → List Law) where
+  from-last : (i count : ℕ) → from f i (suc count) ≡ from f i count ++ f (i + count)
   unfolding from
-  rest-step h = let e : m - i ≡ suc (m - (i + 1)) = omega arith in rw (e, add-one)
+  from-last i zero = let e : i ≡ i + 0 = omega arith in append-nil (f i) ∙ ap f e
+  from-last i (suc count) =
+      let e : suc i + count ≡ i + suc count = omega arith in
+      ap (λ (x : List Law). f i ++ x) (from-last (suc i) count ∙ ap (λ (k : ℕ). from f (suc i) count ++ f k) e)
+      ∙ sym (append-assoc (f i) (from f (suc i) count) (f (i + suc count)))
 
-  rest-end : m ≤ i → rest f i m ≡ []
-  unfolding from
-  rest-end h = let e : m - i ≡ 0 = omega arith in rw e
+  each-from : (m : ℕ) → forEach m f ≡ from f 0 m
+  unfolding forEach from
+  each-from zero = refl
+  each-from (suc m) = let e : m ≡ 0 + m = omega arith in
+      ap (λ (x : List Law). x ++ f m) (each-from m) ∙ ap (λ (k : ℕ). from f 0 m ++ f k) e ∙ sym (from-last 0 m)
 
-rest-start : (f : ℕ → List Law) (m : ℕ) → forEach m f ≡ rest f 0 m
-rest-start f m = let e : m ≡ m - 0 = omega arith in ap (from f 0) e
+  rest-start : (m : ℕ) → forEach m f ≡ rest f 0 m
+  unfolding rest
+  rest-start m = let e : m ≡ m - 0 = omega arith in each-from m ∙ ap (from f 0) e
+
+  module _ {i m : ℕ} where
+    rest-step : i < m → rest f i m ≡ f i ++ rest f (i + 1) m
+    unfolding rest from
+    rest-step h = let e : m - i ≡ suc (m - (i + 1)) = omega arith in rw (e, add-one)
+
+    rest-end : m ≤ i → rest f i m ≡ []
+    unfolding rest from
+    rest-end h = let e : m - i ≡ 0 = omega arith in rw e
+
+-- the reply to a law by its test, and where the test compares two numbers
+module _ (cause : Cause) (p : ℕ) where
+  pub passed : {t : Bool} → t ≡ true → refuses (unless t cause p) ≡ false
+  passed e = ap (λ (t : Bool). refuses (unless t cause p)) e
+
+  pub failed : {t : Bool} → t ≡ false → unless t cause p ≡ Refused cause p
+  failed e = ap (λ (t : Bool). unless t cause p) e
+
+  pub equal : {a b : ℕ} → a ≡ b → refuses (unless (eqb a b) cause p) ≡ false
+  equal {a} {b} e = passed (eq-eqb a b e)
+
+  pub same : {a b : ℕ} → refuses (unless (eqb a b) cause p) ≡ false → a ≡ b
+  same {a} {b} e = eqb-true a b (unless-passed (eqb a b) cause p e)
+
+  pub unequal : {a b : ℕ} → (a ≡ b → ⊥) → unless (eqb a b) cause p ≡ Refused cause p
+  unequal {a} {b} d = failed (ne-eqb a b d)
 
 module _ (n : ℕ) (table : List ℕ) where
   pub no-more : firstBreach n table [] ≡ Done 0
@@ -39,13 +75,13 @@ module _ (n : ℕ) (table : List ℕ) where
   no-more = first-none (Done 0)
 
   -- the first law of a list, kept or broken
-  pub first-kept : (law : Law) (more : List Law) → keeps n table law ≡ true → firstBreach n table (law ∷ more) ≡ firstBreach n table more
+  pub first-kept : (law : Law) (more : List Law) → refuses (lawReply n table law) ≡ false → firstBreach n table (law ∷ more) ≡ firstBreach n table more
   unfolding firstBreach
-  first-kept law more e = test-next _ _ _ _ _ e
+  first-kept law more e = first-next (lawReply n table law) (map (lawReply n table) more) (Done 0) e
 
-  pub first-broken : (law : Law) (more : List Law) → keeps n table law ≡ false → firstBreach n table (law ∷ more) ≡ breach n law
+  pub first-broken : (law : Law) (more : List Law) {cause : Cause} {p : ℕ} → lawReply n table law ≡ Refused cause p → firstBreach n table (law ∷ more) ≡ Refused cause p
   unfolding firstBreach
-  first-broken law more e = test-here _ _ _ _ _ e
+  first-broken law more e = first-here (lawReply n table law) (map (lawReply n table) more) (Done 0) (ap refuses e) ∙ e
 
   two-lists : (xs ys : List Law) → firstBreach n table (xs ++ ys) ≡ firstRefusal (map (lawReply n table) xs) (firstBreach n table ys)
   unfolding firstBreach
@@ -92,11 +128,11 @@ module _ {n : ℕ} {table : List ℕ} {r : Reply} {f : ℕ → List Law} {i m : 
 
 -- a loop whose turn is one law
 module _ {n : ℕ} {table : List ℕ} {r : Reply} {g : ℕ → Law} {i m : ℕ} {more : List Law} (l : Loop n table r (λ k. g k ∷ []) i m more) (h : i < m) where
-  pub kept : keeps n table (g i) ≡ true → Loop n table r (λ k. g k ∷ []) (i + 1) m more
+  pub kept : refuses (lawReply n table (g i)) ≡ false → Loop n table r (λ k. g k ∷ []) (i + 1) m more
   kept e = passes l h (ap refuses (first-kept n table (g i) [] e ∙ no-more n table))
 
-  pub broken : keeps n table (g i) ≡ false → r ≡ breach n (g i)
-  broken e = let q : firstBreach n table (g i ∷ []) ≡ breach n (g i) = first-broken n table (g i) [] e in
+  pub broken : {cause : Cause} {p : ℕ} → lawReply n table (g i) ≡ Refused cause p → r ≡ Refused cause p
+  broken {cause} {p} e = let q : firstBreach n table (g i ∷ []) ≡ Refused cause p = first-broken n table (g i) [] e in
       stops l h (ap refuses q) ∙ q
 
 -- a breach found at the place that the law names

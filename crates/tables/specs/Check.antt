@@ -1,11 +1,9 @@
--- The check of a table: each law with the reply to its breach, the order in which they are looked at, and the first breach.
+-- 'Kind tables' and replies 2 and 3: each law with the reply to its breach, the order in which they are looked at, and the first breach.
 -- Assumes nothing.
-use mathlib.Core.Bool.{Bool}
 use mathlib.Core.List.{List, [], _∷_, _++_, map}
 use Prim.Native.Nat.{ℕ, zero, suc, _+_, _*_}
 use lib.Dec.{eqb, ltb}
 use lib.ListN.{getD}
-use Rattle.replies.specs.declared.Cause.{Cause}
 use Rattle.replies.specs.declared.Cause.the-variants.{NoKind, LawBroken}
 use Rattle.replies.specs.declared.Reply.{Reply}
 use Rattle.replies.specs.declared.Reply.the-variants.{Done}
@@ -26,56 +24,29 @@ pub data Law : Type 0 where
   -- meet(meet(i,j),k) = meet(i,meet(j,k))
   group : ℕ → ℕ → ℕ → Law
 
--- whether the table keeps a law
-unfoldable pub keeps : ℕ → List ℕ → Law → Bool
-keeps n table (entry p) = ltb (getD table p 0) n
-keeps n table (self i) = eqb (meetAt n table i i) i
-keeps n table (none i) = eqb (meetAt n table 0 i) 0
-keeps n table (any i) = eqb (meetAt n table 1 i) i
-keeps n table (swap i j) = eqb (meetAt n table i j) (meetAt n table j i)
-keeps n table (group i j k) = eqb (meetAt n table (meetAt n table i j) k) (meetAt n table i (meetAt n table j k))
-
--- what is told where a law is broken: 2 for an entry, 3 for any other law
-abbrev pub breachCause : Law → Cause
-breachCause (entry p) = NoKind
-breachCause (self i) = LawBroken
-breachCause (none i) = LawBroken
-breachCause (any i) = LawBroken
-breachCause (swap i j) = LawBroken
-breachCause (group i j k) = LawBroken
-
--- at the offset of the entry read, and for a pair or a triple at i × n + j
-abbrev pub breachPlace : ℕ → Law → ℕ
-breachPlace n (entry p) = p
-breachPlace n (self i) = i * n + i
-breachPlace n (none i) = 0 * n + i
-breachPlace n (any i) = 1 * n + i
-breachPlace n (swap i j) = i * n + j
-breachPlace n (group i j k) = i * n + j
-
--- the reply to one law
-abbrev pub lawReply : ℕ → List ℕ → Law → Reply
-lawReply n table law = unless (keeps n table law) (breachCause law) (breachPlace n law)
-
--- the laws of f at i, i + 1, .., count of them
-unfoldable pub from : (ℕ → List Law) → ℕ → ℕ → List Law
-from f i zero = []
-from f i (suc count) = f i ++ from f (suc i) count
+-- the reply to one law. 2, "a table entry is n or more", at its offset; 3, "a table law broken", at the "offset of the entry read; in a pair or
+-- triple i × n + j"
+unfoldable pub lawReply : ℕ → List ℕ → Law → Reply
+lawReply n table (entry p) = unless (ltb (getD table p 0) n) NoKind p
+lawReply n table (self i) = unless (eqb (meetAt n table i i) i) LawBroken (i * n + i)
+lawReply n table (none i) = unless (eqb (meetAt n table 0 i) 0) LawBroken (0 * n + i)
+lawReply n table (any i) = unless (eqb (meetAt n table 1 i) i) LawBroken (1 * n + i)
+lawReply n table (swap i j) = unless (eqb (meetAt n table i j) (meetAt n table j i)) LawBroken (i * n + j)
+lawReply n table (group i j k) = unless (eqb (meetAt n table (meetAt n table i j) k) (meetAt n table i (meetAt n table j k))) LawBroken (i * n + j)
 
 -- the laws of f for each i below n, in rising order
-abbrev pub forEach : ℕ → (ℕ → List Law) → List Law
-forEach n f = from f 0 n
+unfoldable pub forEach : ℕ → (ℕ → List Law) → List Law
+forEach zero f = []
+forEach (suc n) f = forEach n f ++ f n
 
 unfoldable pub entries : ℕ → List Law
 entries n = forEach (n * n) (λ p. entry p ∷ [])
 
--- the laws of one kind
-abbrev pub laws : ℕ → List Law
-laws i = self i ∷ none i ∷ any i ∷ []
+-- "for each i in rising order meet(i,i) = i, meet(0,i) = 0, meet(1,i) = i"
+unfoldable pub singles : ℕ → List Law
+singles n = forEach n (λ i. self i ∷ none i ∷ any i ∷ [])
 
-unfoldable pub firsts : ℕ → List Law
-firsts n = forEach n laws
-
+-- "pairs and triples go by i, then j, then k"
 unfoldable pub pairs : ℕ → List Law
 pairs n = forEach n (λ i. forEach n (λ j. swap i j ∷ []))
 
@@ -84,7 +55,7 @@ triples n = forEach n (λ i. forEach n (λ j. forEach n (λ k. group i j k ∷ [
 
 -- every law, in the order in which they are looked at
 abbrev pub inOrder : ℕ → List Law
-inOrder n = entries n ++ (firsts n ++ (pairs n ++ triples n))
+inOrder n = entries n ++ (singles n ++ (pairs n ++ triples n))
 
 -- the reply to the first law of the list that the table breaks
 unfoldable pub firstBreach : ℕ → List ℕ → List Law → Reply

@@ -1,3 +1,1 @@
 pub mod Check
-pub mod Sizes
-pub mod Masks

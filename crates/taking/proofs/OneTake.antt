@@ -11,7 +11,8 @@ use Rattle.meaning.specs.Picture.{Fact}
 use Rattle.meaning.specs.Rig.{NoPicture, SameMeaning}
 use Rattle.meaning.proofs.Rigs.{counts-every}
 use Rattle.meaning.proofs.Canon.{canon, canon-rig-placing, canon-taken, atClass}
-use Rattle.blocks.specs.Layout.{blockForm, rigOf, taken, classCount}
+use Rattle.joints.specs.Layout.{blockForm, taken, classCount}
+use Rattle.blocks.specs.Layout.{rigOf}
 use Rattle.blocks.proofs.Shape.{GoodBlock, stands-good, block-rig}
 use Rattle.blocks.proofs.Bytes.{at-rig, one-block}
 use Rattle.taking.specs.Take.{After, Take}

@@ -19,8 +19,9 @@ use Rattle.meaning.proofs.Takes.{taken-means, refuted-clash}
 use Rattle.packets.specs.Facts.{rigFacts}
 use Rattle.solver.specs.declared.Solved.{Solved}
 use Rattle.solver.specs.Unpacked.{Ready, formOf}
-use Rattle.blocks.specs.Layout.{kindsOf, jointsOf, tableOf, blockForm, rigOf, taken, classCount}
-use Rattle.blocks.specs.Storing.{withForm}
+use Rattle.joints.specs.Layout.{kindsOf, jointsOf, blockForm, taken, classCount}
+use Rattle.joints.specs.Storing.{withForm}
+use Rattle.blocks.specs.Layout.{tableOf, rigOf}
 use Rattle.blocks.proofs.Shape.{GoodBlock, put-together, block-rig, block-sized}
 use Rattle.blocks.proofs.Bytes.{with-rig, stored-form, stored-good}
 use Rattle.taking.specs.Take.{After}

@@ -16,13 +16,14 @@ use Rattle.meaning.specs.Picture.{Fact, rename}
 use Rattle.meaning.specs.Picture.Fact.{has-kind, same, leads}
 use Rattle.meaning.specs.Form.{Form, rigJoint}
 use Rattle.meaning.specs.Solving.{rigNumber, InRange}
-use Rattle.packets.specs.Packet.{packetReply, factsWanted, joints, factAt, factCount}
+use Rattle.packets.specs.Packet.{joints, factAt, factCount}
 use Rattle.packets.specs.Facts.{factOf, rigFacts}
-use Rattle.packets.proofs.WellFormed.{WellFormed, well-formed, packet-done}
 use Rattle.packets.proofs.Facts.{fact-named}
+use Rattle.screening.specs.Screening.{packetReply, factsWanted}
+use Rattle.screening.proofs.WellFormed.{WellFormed, well-formed, packet-done}
 use Rattle.solver.specs.declared.Solved.{Solved}
 use Rattle.solver.specs.Unpacked.{Folded}
-use Rattle.blocks.specs.Layout.{kindsOf, jointsOf}
+use Rattle.joints.specs.Layout.{kindsOf, jointsOf}
 use Rattle.blocks.specs.WellFormed.{blockReply}
 use Rattle.blocks.proofs.Shape.{GoodBlock, call-goes-on}
 use Rattle.taking.specs.Take.{Take, takeRefusal}

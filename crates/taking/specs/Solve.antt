@@ -7,8 +7,9 @@ use Prim.Native.Nat.{ℕ, _-_}
 use Rattle.meaning.specs.Rig.{NoPicture}
 use Rattle.packets.specs.Facts.{rigFacts}
 use Rattle.solver.specs.declared.Solved.{Solved}
-use Rattle.blocks.specs.Layout.{rigOf, taken, classCount}
-use Rattle.blocks.specs.Storing.{withForm}
+use Rattle.joints.specs.Layout.{taken, classCount}
+use Rattle.joints.specs.Storing.{withForm}
+use Rattle.blocks.specs.Layout.{rigOf}
 use Rattle.taking.specs.Take.{After}
 
 -- the block with a form in it

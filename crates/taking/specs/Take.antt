@@ -11,9 +11,10 @@ use Rattle.replies.specs.Replies.{refuses, firstRefusal}
 use Rattle.meaning.specs.declared.RigJoint.{RigJoint}
 use Rattle.meaning.specs.Picture.{Fact}
 use Rattle.meaning.specs.Rig.{NoPicture, SameMeaning}
-use Rattle.packets.specs.Packet.{packetReply, factsWanted}
 use Rattle.packets.specs.Facts.{rigFacts}
-use Rattle.blocks.specs.Layout.{kindsOf, jointsOf, rigOf, taken, classCount}
+use Rattle.screening.specs.Screening.{packetReply, factsWanted}
+use Rattle.joints.specs.Layout.{kindsOf, jointsOf, taken, classCount}
+use Rattle.blocks.specs.Layout.{rigOf}
 use Rattle.blocks.specs.WellFormed.{blockReply, Stands}
 
 -- replies 1 and 4 to 9, the lowest first; done where none fits

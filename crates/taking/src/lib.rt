@@ -6,9 +6,9 @@ ghost use lib.ListN.{length};
 ghost use Rattle.kinds.specs.Kinds.{meetAt};
 ghost use Rattle.meaning.specs.Picture.{rename};
 ghost use Rattle.meaning.specs.Solving.{rigNumber};
-ghost use Rattle.packets.specs.Packet.{packetReply, factsWanted};
 ghost use Rattle.packets.specs.Facts.{rigFacts};
 ghost use Rattle.packets.specs.Decoding.{rigFact};
+ghost use Rattle.screening.specs.Screening.{packetReply, factsWanted};
 ghost use Rattle.replies.specs.declared.Cause.{Cause};
 ghost use Rattle.replies.specs.declared.Reply.{Reply};
 ghost use Rattle.solver.specs.Unpacked.{formOf, nodeFact, Ready, Folded};
@@ -74,10 +74,10 @@ fn refusal(block: &[u8], packet: &[u8]) -> Reply
     if replies::is_refusal(lent) {
         return lent;
     }
-    packets::facts_reply(
+    screening::facts_reply(
         packet,
-        blocks::kind_count(block) as usize,
-        blocks::joint_count(block) as usize,
+        joints::kind_count(block) as usize,
+        joints::joint_count(block) as usize,
     )
 }
 
@@ -86,8 +86,8 @@ fn solve(block: &[u8], packet: &[u8]) -> Outcome
     requires { ⌜ takeRefusal (now block) (now packet) ≡ Reply.Done 0 ⌝ }
     ensures { λ r. ⌜ Solves (now (block .entry)) (now (packet .entry)) (r .clash) (r .joins) (r .form) ⌝ }
 {
-    let n = blocks::kind_count(block) as usize;
-    let v = blocks::joint_count(block) as usize;
+    let n = joints::kind_count(block) as usize;
+    let v = joints::joint_count(block) as usize;
     let start = unpacking::unpack(block, v, 0);
     let end = with_facts(start, blocks::kind_table(block), n, v, packet);
     let form = end.form;
@@ -117,7 +117,7 @@ fn store(block: &mut [u8], form: Solved, clash: bool)
     let class = form.class;
     let kind = form.kind;
     let link = form.link;
-    blocks::store(block, &class, &kind, &link);
+    joints::store(block, &class, &kind, &link);
 }
 
 // The reply where none of 1 to 9 fits.

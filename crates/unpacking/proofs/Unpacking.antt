@@ -10,7 +10,7 @@ use Rattle.runs.proofs.Zeros.{zeros-at}
 use Rattle.solver.proofs.Fill.{Filled}
 use Rattle.meaning.specs.Asking.{Extends}
 use Rattle.meaning.specs.Form.{listForm}
-use Rattle.blocks.specs.Layout.{classesOf, jointKindsOf, rowsOf, blockForm}
+use Rattle.joints.specs.Layout.{classesOf, jointKindsOf, rowsOf, blockForm}
 use Rattle.unpacking.specs.Nodes.{Nodes}
 
 -- xs with the count places from start replaced by ys

@@ -4,7 +4,7 @@ ghost use Prim.Native.Nat.{_≤_};
 ghost use lib.ListN.{length};
 ghost use Rattle.meaning.specs.Asking.{Extends};
 ghost use Rattle.solver.specs.Unpacked.{formOf};
-ghost use Rattle.blocks.specs.Layout.{sessionSize, blockForm};
+ghost use Rattle.joints.specs.Layout.{sessionSize, blockForm};
 ghost use Rattle.unpacking.specs.Nodes.{Nodes};
 use solver::Solved;
 
@@ -34,17 +34,11 @@ pub fn unpack(session: &[u8], v: usize, k: usize) -> Solved
 {
     let all = v + k;
     let mut class = [0u8; 96];
-    put_nodes(&mut class, blocks::joints::classes(session), v, all, 0);
+    put_nodes(&mut class, joints::classes(session), v, all, 0);
     number_free(&mut class, v, all);
     let mut kind = [0u8; 96];
-    put_nodes(&mut kind, blocks::joints::kinds(session), v, all, 1);
+    put_nodes(&mut kind, joints::kinds(session), v, all, 1);
     let mut link = [0u8; 1536];
-    put_nodes(
-        &mut link,
-        blocks::joints::rows(session),
-        16 * v,
-        16 * all,
-        255,
-    );
+    put_nodes(&mut link, joints::rows(session), 16 * v, 16 * all, 255);
     Solved { class, kind, link }
 }

@@ -9,7 +9,7 @@ use Rattle.replies.specs.declared.Reply.{Reply}
 use Rattle.replies.specs.Replies.{third}
 use Rattle.replies.proofs.Laws.{refusal-third}
 use Rattle.solver.proofs.Run.{classes-le}
-use Rattle.blocks.specs.Layout.{jointsOf, blockForm, classCount}
+use Rattle.joints.specs.Layout.{jointsOf, blockForm, classCount}
 use Rattle.meaning.specs.declared.Verdict.{Verdict}
 use Rattle.meaning.specs.declared.Verdict.the-variants as verdict
 use Rattle.meaning.specs.Rule.{verdictNumber}

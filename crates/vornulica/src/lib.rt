@@ -3,9 +3,11 @@
 ghost use mathlib.Core.Path.{_≡_};
 ghost use Rattle.replies.specs.Replies.{packed};
 ghost use Rattle.opening.specs.Open.{openReply, openBlock};
+ghost use Rattle.taking.specs.Take.{Take};
+ghost use Rattle.asking.specs.Ask.{Ask};
 ghost use Rattle.writing.specs.Write.{writeReply, writtenOutput};
 ghost use Rattle.vornulica.specs.House.{houseReply, houseBuffer};
-ghost use Rattle.vornulica.specs.Host.{TakeNumber, AskNumber};
+ghost use Rattle.vornulica.specs.Host.{HostNumber};
 use replies::Cause;
 use replies::Reply;
 
@@ -20,7 +22,7 @@ pub extern "C" fn rig_open(n: u64, v: u64, table: &[u8], block: &mut [u8]) -> u6
 // Takes all facts of the packet into the session, or none.
 #[no_mangle]
 pub extern "C" fn rig_take(block: &mut [u8], packet: &[u8]) -> u64
-    ensures { λ r. ⌜ TakeNumber (now (block .entry)) (now (packet .entry)) r (now (block .exit)) ⌝ }
+    ensures { λ r. ⌜ HostNumber (λ reply. Take (now (block .entry)) (now (packet .entry)) reply (now (block .exit))) r ⌝ }
 {
     replies::to_host(taking::take(block, packet))
 }
@@ -28,7 +30,7 @@ pub extern "C" fn rig_take(block: &mut [u8], packet: &[u8]) -> u64
 // Asks a rule: the third number is the verdict.
 #[no_mangle]
 pub extern "C" fn rig_ask(block: &[u8], packet: &[u8]) -> u64
-    ensures { λ r. ⌜ AskNumber (now (block .entry)) (now (packet .entry)) r ⌝ }
+    ensures { λ r. ⌜ HostNumber (λ reply. Ask (now (block .entry)) (now (packet .entry)) reply) r ⌝ }
 {
     replies::to_host(asking::ask(block, packet))
 }

@@ -4,7 +4,7 @@
 use mathlib.Core.Path.{_≡_, refl, sym, ap, _∙_}
 use mathlib.Core.Bool.{Bool, true, false, cond}
 use mathlib.Core.List.{List, [], _∷_, _++_, append-assoc, append-nil}
-use Prim.Native.Nat.{ℕ, suc, _+_, _-_, _/_, _%_, _<_, _≤_}
+use Prim.Native.Nat.{ℕ, suc, _+_, _-_, _*_, _/_, _%_, _<_, _≤_}
 use native.Mathlib.Omega.{arith}
 use native.Mathlib.Numerals.{add-one}
 use lib.Dec.{eqb}
@@ -15,7 +15,7 @@ use Rattle.meaning.specs.declared.RigJoint.{RigJoint}
 use Rattle.meaning.specs.Picture.{Fact, rename}
 use Rattle.meaning.specs.Picture.Fact.{has-kind, leads}
 use Rattle.meaning.specs.Form.{Form, unknown, linksFrom, factsAt, factsFrom, rigJoint}
-use Rattle.packets.specs.FactsPacket.{factBytes, allBytes, lengthOf, factsPacket}
+use Rattle.packets.specs.FactsPacket.{factBytes, allBytes, factsPacket}
 use Rattle.packets.proofs.FactsPacket.{bytes-four}
 use Rattle.writing.specs.Putting.{Room, Put, formBytes, kindBytes, linkBytes, sameBytes}
 
@@ -177,7 +177,7 @@ pub form-put :
 form-put v fs {s} {t} {u} {end} h p e =
     let m = length (allBytes fs) in
     let six : end ≡ suc (suc (suc (suc (suc (suc m))))) = omega (arith, p .ends) in
-    let q : end - 2 ≡ lengthOf (length fs) = omega (arith, p .ends, bytes-four fs) in
+    let q : end - 2 ≡ 4 + 4 * length fs = omega (arith, p .ends, bytes-four fs) in
     let behind : take m (drop 6 t) ≡ allBytes fs =
     sym (drop-at (take 6 t) (take m (drop 6 t)) 6 (length-take-le 6 t (omega (arith, p .size))))
     ∙ ap (drop 6) (sym (take-add 6 m t) ∙ ap (λ (k : ℕ). take k t) (sym (p .ends)) ∙ p .front)

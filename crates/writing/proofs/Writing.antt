@@ -16,7 +16,7 @@ use Rattle.meaning.specs.Picture.Fact.{has-kind, same}
 use Rattle.meaning.specs.Form.{Form, unknown, linksFrom, factsAt, factsFrom, rigJoint, takenFacts}
 use Rattle.packets.specs.FactsPacket.{allBytes, factsPacket}
 use Rattle.packets.proofs.FactsPacket.{bytes-four, packet-size}
-use Rattle.blocks.specs.Layout.{jointsOf, blockForm, taken}
+use Rattle.joints.specs.Layout.{jointsOf, blockForm, taken}
 use Rattle.blocks.specs.WellFormed.{blockReply}
 use Rattle.blocks.proofs.Shape.{GoodBlock, good-block, block-done}
 use Rattle.outputs.specs.Output.{outputReply, outputAfter}

@@ -6,7 +6,7 @@ use Prim.Native.Nat.{ℕ}
 use Rattle.replies.specs.declared.Reply.{Reply}
 use Rattle.replies.specs.Replies.{refuses, firstRefusal}
 use Rattle.packets.specs.FactsPacket.{factsPacket}
-use Rattle.blocks.specs.Layout.{jointsOf, taken}
+use Rattle.joints.specs.Layout.{jointsOf, taken}
 use Rattle.blocks.specs.WellFormed.{blockReply}
 use Rattle.outputs.specs.Output.{outputReply, outputAfter}
 

@@ -5,7 +5,7 @@ ghost use mathlib.Core.List.{[], _∷_};
 ghost use Prim.Native.Nat.{_+_, _/_, _%_, _<_, _≤_};
 ghost use lib.ListN.{length, drop};
 ghost use Rattle.meaning.specs.Form.{linksFrom, factsAt, factsFrom};
-ghost use Rattle.blocks.specs.Layout.{sessionSize, jointsOf, blockForm};
+ghost use Rattle.joints.specs.Layout.{sessionSize, jointsOf, blockForm};
 ghost use Rattle.writing.specs.Write.{solvedForm, writeReply, writtenOutput};
 ghost use Rattle.writing.specs.Putting.{mostBytes, Room, Put, formBytes, kindBytes, linkBytes};
 use replies::Reply;
@@ -54,7 +54,7 @@ fn put_links(to: &mut [u8], at: usize, block: &[u8], j: usize) -> usize
 {
     let mut end = at;
     for l in 0..16 {
-        let c = blocks::joints::link_at(block, j, l);
+        let c = joints::link_at(block, j, l);
         end = put_link(to, end, j as u8, l as u8, c);
     }
     end
@@ -65,11 +65,11 @@ fn put_joint(to: &mut [u8], at: usize, block: &[u8], j: usize) -> usize
     requires { ⌜ (sessionSize ≤ length (now block)) × (j < 64) × Room (formBytes (factsAt (blockForm (now block)) j)) at (now to) ⌝ }
     ensures { λ r. ⌜ Put (formBytes (factsAt (blockForm (now (block .entry))) j)) at (now (to .entry)) (now (to .exit)) r ⌝ }
 {
-    let class = blocks::joints::class_at(block, j);
+    let class = joints::class_at(block, j);
     if class != j as u8 {
         return put(to, at, 2, j as u8, class, 0);
     }
-    let kind = blocks::joints::kind_at(block, j);
+    let kind = joints::kind_at(block, j);
     let behind = put_kind(to, at, j as u8, kind);
     put_links(to, behind, block, j)
 }
@@ -104,7 +104,7 @@ fn put_form(to: &mut [u8], block: &[u8]) -> usize
     requires { ⌜ (sessionSize ≤ length (now block)) × (jointsOf (now block) ≤ 64) × (length (now to) ≡ mostBytes) ⌝ }
     ensures { λ r. ⌜ Put (solvedForm (now (block .entry))) 0 (now (to .entry)) (now (to .exit)) r ⌝ }
 {
-    let v = blocks::joint_count(block);
+    let v = joints::joint_count(block);
     let end = put_joints(to, 6, block, v as usize);
     put_header(to, end - 2, v);
     end

@@ -7,7 +7,7 @@ use Rattle.replies.specs.Replies.{refuses}
 use Rattle.packets.specs.Facts.{ruleOf}
 use Rattle.reach.specs.Reached.{ReachReply}
 use Rattle.reach.proofs.Reached.{reach-done}
-use Rattle.blocks.specs.Layout.{kindsOf, jointsOf}
+use Rattle.joints.specs.Layout.{kindsOf, jointsOf}
 use Rattle.asking.specs.Ask.{askRefusal}
 use Rattle.asking.specs.Ask.Ask.{refused, unreached, judged}
 use Rattle.asking.proofs.Asking.{asked, ask-goes-on}

@@ -11,10 +11,12 @@ use Rattle.replies.specs.declared.Reply.the-variants.{Done}
 use Rattle.kinds.specs.Kinds.{meetAt}
 use Rattle.meaning.specs.Rig.{meetOf}
 use Rattle.meaning.specs.Asking.{ruleNodeFacts, Extends, Settled}
-use Rattle.packets.specs.Packet.{joints, packetReply, ruleWanted}
+use Rattle.packets.specs.Packet.{joints}
 use Rattle.packets.specs.Facts.{ruleOf}
+use Rattle.screening.specs.Screening.{packetReply, ruleWanted}
 use Rattle.solver.specs.Unpacked.{formOf, Ready, Took}
-use Rattle.blocks.specs.Layout.{kindsOf, jointsOf, blockForm, rigOf}
+use Rattle.joints.specs.Layout.{kindsOf, jointsOf, blockForm}
+use Rattle.blocks.specs.Layout.{rigOf}
 use Rattle.blocks.proofs.Read.{Read, read-back, as-read}
 use Rattle.asking.proofs.Asking.{Asked, asked, asked-rule, asked-nodes, asked-ready, Tells, ruled-out, applies, waits}
 use Rattle.asking.proofs.verdict.Statement.{statement}

@@ -12,7 +12,7 @@ use Rattle.packets.specs.Packet.{factCount, joints}
 use Rattle.packets.specs.Facts.{factOf, ruleOf}
 use Rattle.packets.specs.Decoding.{ruleFact}
 use Rattle.reach.specs.Marking.{nthFact}
-use Rattle.packets.proofs.Packet.{fact-inside}
+use Rattle.screening.proofs.Screening.{fact-inside}
 use Rattle.solver.specs.Unpacked.{formOf, nodeFact}
 use Rattle.solver.proofs.Takes.{took-refuted}
 use Rattle.solver.proofs.Folding.{Folding, fold-begins, fold-ends, fold-next, fold-stops, folded-took}

@@ -8,7 +8,7 @@ use borrow.Author.Tests.{not-true, not-false}
 use Rattle.meaning.specs.Asking.{tieFact}
 use Rattle.packets.specs.Packet.{ties, joints}
 use Rattle.packets.specs.Facts.{ruleOf}
-use Rattle.packets.proofs.Packet.{tie-inside}
+use Rattle.screening.proofs.Screening.{tie-inside}
 use Rattle.solver.specs.Unpacked.{formOf, nodeFact}
 use Rattle.solver.proofs.Takes.{took-refuted}
 use Rattle.solver.proofs.Folding.{Folding, fold-begins, fold-ends, fold-next, fold-stops, folded-took}

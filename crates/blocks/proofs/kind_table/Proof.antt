@@ -1,26 +1,31 @@
 -- `blocks::kind_table` meets its contract: the part behind the session's own bytes that has n × n of them.
 -- Assumes nothing.
-use mathlib.Core.Path.{_≡_, ap}
-use Prim.Native.Nat.{ℕ, _+_, _-_, _*_}
+use mathlib.Core.Path.{_≡_, ap, _∙_}
+use Prim.Native.Nat.{ℕ, _+_, _-_, _*_, _≤_}
 use native.Mathlib.Omega.{arith}
 use lib.ListN.{take}
 use Rattle.kinds.proofs.Offset.{square-le}
-use Rattle.blocks.specs.Layout.{sessionSize, kindsOf, roomOf}
+use Rattle.joints.specs.Layout.{sessionSize}
+use Rattle.blocks.specs.Layout.{tableRoom, roomOf}
 use borrow.Author.Needs.{needs}
 use Rattle.blocks.proofs.kind_table.Statement.{statement}
 use Rattle.blocks.proofs.kind_table.Tie as tie
 
-shared-slice-read-n : tie.Need-shared-slice-read-n
-shared-slice-read-n c = search needs
+-- the square of the n that was read has room
+square : (c : tie.After-kind-count) → c .kind-count .result * c .kind-count .result ≤ tableRoom
+square c = square-le (omega (arith, c .kind-count .ensures, c .before .before .pre .1))
+
+kind-count-requires : tie.Need-kind-count-requires
+kind-count-requires c κs = search needs
 
 cast-n : tie.Need-cast-n
 cast-n c = search needs
 
 mul-end : tie.Need-mul-end
-mul-end c = omega (arith, square-le (c .before .pre .1))
+mul-end c = omega (arith, square c)
 
 add-end : tie.Need-add-end
-add-end c = omega (arith, square-le (c .before .pre .1))
+add-end c = omega (arith, square c)
 
 sub-result : tie.Need-sub-result
 sub-result c = search needs
@@ -29,19 +34,20 @@ part-result-start : tie.Need-part-result-start
 part-result-start c = search needs
 
 part-result-end : tie.Need-part-result-end
-part-result-end c = omega (arith, c .before .pre .0, square-le (c .before .pre .1))
+part-result-end c = omega (arith, c .before .before .pre .0, square c)
 
 returns : tie.Need-returns
 returns c =
-    let b = c .before .before .args .block .now in
-    let e : sessionSize + kindsOf b * kindsOf b - sessionSize ≡ kindsOf b * kindsOf b = omega arith in
-    ap (λ (k : ℕ). take k (roomOf b)) e
+    let room = roomOf (c .before .before .before .args .block .now) in
+    let n = c .before .kind-count .result in
+    let e : sessionSize + n * n - sessionSize ≡ n * n = omega arith in
+    ap (λ (k : ℕ). take k room) e ∙ ap (λ (m : ℕ). take (m * m) room) (c .before .kind-count .ensures)
 
 pub kind-table-spec : {M : Type 1} → statement M
 kind-table-spec =
     tie.close
     (tie.spec
-    shared-slice-read-n
+    kind-count-requires
     cast-n
     mul-end
     add-end

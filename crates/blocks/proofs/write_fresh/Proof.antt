@@ -1,62 +1,27 @@
--- `blocks::write_fresh` meets its contract: part by part, until the whole block is written.
+-- `blocks::write_fresh` meets its contract: the session's own bytes, then the table's room, and the whole block is written.
 -- Assumes nothing.
-use mathlib.Core.Path.{refl, _∙_}
 use native.Mathlib.Omega.{arith}
 use lib.ListN.{length-append, length-replicate}
-use Rattle.runs.proofs.Each.{each-length}
 use Rattle.kinds.proofs.Offset.{square-le}
-use Rattle.blocks.proofs.Checks.{none-written, part-written, all-written, in-order}
+use Rattle.joints.specs.Layout.{sessionSize}
+use Rattle.joints.proofs.Written.{none-written, part-written, all-written}
+use Rattle.joints.proofs.Fresh.{session-length}
+use Rattle.blocks.specs.Layout.{tableRoom}
 use borrow.Author.Needs.{needs}
 use Rattle.blocks.proofs.write_fresh.Statement.{statement}
 use Rattle.blocks.proofs.write_fresh.Tie as tie
 
-sub-write-sizes : tie.Need-sub-write-sizes
-sub-write-sizes c = search needs
+sub-write-fresh : tie.Need-sub-write-fresh
+sub-write-fresh c = search needs
 
-part-write-sizes-start : tie.Need-part-write-sizes-start
-part-write-sizes-start c = search needs
+part-write-fresh-start : tie.Need-part-write-fresh-start
+part-write-fresh-start c = search needs
 
-part-write-sizes-end : tie.Need-part-write-sizes-end
-part-write-sizes-end c = search needs
+part-write-fresh-end : tie.Need-part-write-fresh-end
+part-write-fresh-end c = search needs
 
-write-sizes-requires : tie.Need-write-sizes-requires
-write-sizes-requires c κs = search needs
-
-sub-write-classes : tie.Need-sub-write-classes
-sub-write-classes c = search needs
-
-part-write-classes-start : tie.Need-part-write-classes-start
-part-write-classes-start c = search needs
-
-part-write-classes-end : tie.Need-part-write-classes-end
-part-write-classes-end c = search needs
-
-write-classes-requires : tie.Need-write-classes-requires
-write-classes-requires c κs = search needs
-
-sub-write-kinds : tie.Need-sub-write-kinds
-sub-write-kinds c = search needs
-
-part-write-kinds-start : tie.Need-part-write-kinds-start
-part-write-kinds-start c = search needs
-
-part-write-kinds-end : tie.Need-part-write-kinds-end
-part-write-kinds-end c = search needs
-
-write-kinds-requires : tie.Need-write-kinds-requires
-write-kinds-requires c κs = search needs
-
-sub-write-rows : tie.Need-sub-write-rows
-sub-write-rows c = search needs
-
-part-write-rows-start : tie.Need-part-write-rows-start
-part-write-rows-start c = search needs
-
-part-write-rows-end : tie.Need-part-write-rows-end
-part-write-rows-end c = search needs
-
-write-rows-requires : tie.Need-write-rows-requires
-write-rows-requires c κs = search needs
+write-fresh-requires : tie.Need-write-fresh-requires
+write-fresh-requires c κs = search needs
 
 sub-write-table : tie.Need-sub-write-table
 sub-write-table c = search needs
@@ -69,11 +34,8 @@ part-write-table-end c = search needs
 
 write-table-requires : tie.Need-write-table-requires
 write-table-requires c κs =
-    let rows = c .before .before .before in
-    let kinds = rows .before .before .before .before in
-    let classes = kinds .before .before .before .before in
-    let sizes = classes .before .before .before .before in
-    let sized = sizes .before .before .before .before .pre .1 .0 in
+    let session = c .before .before .before in
+    let sized = session .before .before .before .before .pre .1 .0 in
     (search needs, omega (arith, sized .size, square-le (sized .high)))
 
 same-length : tie.Need-same-length
@@ -82,43 +44,25 @@ same-length c = search needs
 returns : tie.Need-returns
 returns c =
     let table = c .before .before in
-    let rows = table .before .before .before .before in
-    let kinds = rows .before .before .before .before in
-    let classes = kinds .before .before .before .before in
-    let sizes = classes .before .before .before .before in
-    let s = sizes .before .before .before .before in
+    let session = table .before .before .before .before in
+    let s = session .before .before .before .before in
     let sized = s .pre .1 .0 in
-    let one = part-written (none-written (s .args .block .now)) 2 (sizes .write-sizes .ensures) refl in
-    let two = part-written one 64 (classes .write-classes .ensures) (each-length _ 0 64) in
-    let three = part-written two 64 (kinds .write-kinds .ensures) (each-length _ 0 64) in
-    let four =
-    part-written three 1024 (rows .write-rows .ensures)
-    (simp (length-append, length-replicate) (omega (arith, s .pre .1 .1 .1))) in
-    let five =
-    part-written four 4096 (table .write-table .ensures)
+    let one =
+    part-written (none-written (s .args .block .now)) sessionSize (session .write-fresh .ensures)
+    (session-length (s .args .n) (s .args .v) (s .pre .1 .1 .1)) in
+    let two =
+    part-written one tableRoom (table .write-table .ensures)
     (simp (length-append, length-replicate) (omega (arith, sized .size, square-le (sized .high)))) in
-    all-written five (omega (arith, s .pre .0)) ∙ in-order (s .args .n) (s .args .v) (s .args .table .now)
+    all-written two (omega (arith, s .pre .0))
 
 pub write-fresh-spec : {M : Type 1} → statement M
 write-fresh-spec =
     tie.close
     (tie.spec
-    sub-write-sizes
-    part-write-sizes-start
-    part-write-sizes-end
-    write-sizes-requires
-    sub-write-classes
-    part-write-classes-start
-    part-write-classes-end
-    write-classes-requires
-    sub-write-kinds
-    part-write-kinds-start
-    part-write-kinds-end
-    write-kinds-requires
-    sub-write-rows
-    part-write-rows-start
-    part-write-rows-end
-    write-rows-requires
+    sub-write-fresh
+    part-write-fresh-start
+    part-write-fresh-end
+    write-fresh-requires
     sub-write-table
     part-write-table-start
     part-write-table-end

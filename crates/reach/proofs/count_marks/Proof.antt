@@ -1,4 +1,4 @@
--- `packets::count_marks` meets its contract. The loop's invariant: the count is that of the marks passed.
+-- `reach::count_marks` meets its contract. The loop's invariant: the count is that of the marks passed.
 -- The measure is what is left of the marks.
 -- Assumes nothing.
 use mathlib.Core.Bool.{Bool, cond}

@@ -1,4 +1,4 @@
--- `packets::first_unmarked` meets its contract. The loop's invariant: the joints passed are marked.
+-- `reach::first_unmarked` meets its contract. The loop's invariant: the joints passed are marked.
 -- The measure is what is left of the joints.
 -- Assumes nothing.
 use mathlib.Core.Path.{sym, _∙_}

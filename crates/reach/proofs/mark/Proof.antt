@@ -1,4 +1,4 @@
--- `packets::mark` meets its contract: a store at j, which is below the length.
+-- `reach::mark` meets its contract: a store at j, which is below the length.
 -- Assumes nothing.
 use Prim.Native.Nat.{_-_, _<_}
 use lib.ListN.{length}

@@ -1,4 +1,4 @@
--- `packets::mark_fact` meets its contract: the fact read is the i-th, and where it is a link its numbers are in range.
+-- `reach::mark_fact` meets its contract: the fact read is the i-th, and where it is a link its numbers are in range.
 -- Assumes nothing.
 use mathlib.Core.Path.{_≡_, sym, ap, _∙_}
 use Prim.Native.Nat.{ℕ, _-_}
@@ -8,7 +8,7 @@ use Rattle.meaning.specs.Rule.{ruleJoint}
 use Rattle.reach.specs.Marking.{nthFact}
 use Rattle.packets.specs.Facts.{factOf}
 use Rattle.packets.specs.Decoding.{ruleFact}
-use Rattle.packets.proofs.Packet.{fact-inside}
+use Rattle.screening.proofs.Screening.{fact-inside}
 use Rattle.reach.proofs.RulePacket.{rule-well, rule-link}
 use Rattle.reach.proofs.Marking.{by-fact, by-none}
 use Rattle.reach.proofs.mark_fact.Statement.{statement}

@@ -1,4 +1,4 @@
--- `packets::mark_facts` meets its contract. The loop's invariant: the facts passed have been followed.
+-- `reach::mark_facts` meets its contract. The loop's invariant: the facts passed have been followed.
 -- The measure is what is left of the facts.
 -- Assumes nothing.
 use mathlib.Core.Path.{_≡_}

@@ -1,4 +1,4 @@
--- `packets::mark_link` meets its contract: the test says which case holds.
+-- `reach::mark_link` meets its contract: the test says which case holds.
 -- Assumes nothing.
 use mathlib.Core.Path.{sym, _∙_}
 use Prim.Native.Nat.{_-_}

@@ -1,4 +1,4 @@
--- `packets::mark_ties` meets its contract. The loop's invariant: what is marked is reached, and the ties passed are marked.
+-- `reach::mark_ties` meets its contract. The loop's invariant: what is marked is reached, and the ties passed are marked.
 -- The measure is what is left of the ties.
 -- Assumes nothing.
 use mathlib.Core.Path.{_≡_}

@@ -1,4 +1,4 @@
--- `packets::reach_reply` meets its contract: the marked joints are the reached ones.
+-- `reach::reach_reply` meets its contract: the marked joints are the reached ones.
 -- Assumes nothing.
 use Prim.Native.Nat.{_-_}
 use native.Mathlib.Omega.{arith}

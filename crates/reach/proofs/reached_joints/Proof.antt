@@ -1,4 +1,4 @@
--- `packets::reached_joints` meets its contract. The loop's invariant: what is marked is reached, and every tied joint is marked.
+-- `reach::reached_joints` meets its contract. The loop's invariant: what is marked is reached, and every tied joint is marked.
 -- The measure is the number of joints not marked, of 32: a pass that changes the count marks at least one more.
 -- Assumes nothing.
 use mathlib.Core.Path.{sym, _∙_}

@@ -1,7 +1,7 @@
 -- `tables::check` meets its contract: the parts of the order, each looked at where those before it refuse nothing.
 -- Assumes nothing.
 use mathlib.Core.Path.{_∙_, sym}
-use Rattle.tables.specs.Check.{entries, firsts}
+use Rattle.tables.specs.Check.{entries, singles}
 use Rattle.replies.proofs.Laws.{tested}
 use Rattle.tables.proofs.Scan.{first-of, second-of}
 use Rattle.tables.proofs.Lawfulness.{passes-kept, kept-entries}
@@ -28,7 +28,7 @@ is-refusal-requires-2 c κs = search needs
 returns-2 : tie.Need-returns-2
 returns-2 c = c .before .before .first-single .ensures
     ∙ sym (second-of _ _ (entries _) _ (tested (c .before .before .before .before .before .first-entry .ensures) (c .before .before .before .before .is-refusal .ensures) (c .before .before .before .if1 .left))
-    ∙ first-of _ _ (firsts _) _ (tested (c .before .before .first-single .ensures) (c .before .is-refusal2 .ensures) (c .if2 .taken)))
+    ∙ first-of _ _ (singles _) _ (tested (c .before .before .first-single .ensures) (c .before .is-refusal2 .ensures) (c .if2 .taken)))
 
 first-several-requires : tie.Need-first-several-requires
 first-several-requires c κs = let p = c .before .before .before .before .before .before .before .pre in
@@ -37,7 +37,7 @@ first-several-requires c κs = let p = c .before .before .before .before .before
 returns-3 : tie.Need-returns-3
 returns-3 c = c .first-several .ensures
     ∙ sym (second-of _ _ (entries _) _ (tested (c .before .before .before .before .before .before .first-entry .ensures) (c .before .before .before .before .before .is-refusal .ensures) (c .before .before .before .before .if1 .left))
-    ∙ second-of _ _ (firsts _) _ (tested (c .before .before .before .first-single .ensures) (c .before .before .is-refusal2 .ensures) (c .before .if2 .left)))
+    ∙ second-of _ _ (singles _) _ (tested (c .before .before .before .first-single .ensures) (c .before .before .is-refusal2 .ensures) (c .before .if2 .left)))
 
 pub check-spec : {M : Type 1} → statement M
 check-spec =

@@ -7,8 +7,8 @@ use native.Mathlib.Omega.{arith}
 use lib.ListN.{getD, length}
 use borrow.Author.Tests.{lt-ltb, le-ltb}
 use Rattle.kinds.proofs.Offset.{square-le}
-use Rattle.tables.specs.Check.{Law, keeps, entries, firstBreach}
-use Rattle.tables.proofs.Scan.{Loop, begins, kept, broken, closes, no-more}
+use Rattle.tables.specs.Check.{Law, lawReply, entries, firstBreach}
+use Rattle.tables.proofs.Scan.{Loop, begins, passed, failed, kept, broken, closes, no-more}
 use Rattle.tables.proofs.first_entry.Statement.{statement}
 use Rattle.tables.proofs.first_entry.Tie as tie
 
@@ -47,16 +47,16 @@ loop-less : tie.Need-loop-less Inv-loop μ-loop Inv-entries μ-entries
 loop-less c = omega arith
 
 loop-again : tie.Need-loop-again Inv-loop μ-loop Inv-entries μ-entries
-unfolding keeps
+unfolding lawReply
 loop-again c = let l = c .before .before .before .before .loop in
     let s = c .before .before .before .before .before .before .before .args in
-    (omega arith, l .inv .1, kept (l .inv .2) (omega arith) (lt-ltb (getD (s .table .now) (l .p) 0) (s .n) (omega arith)))
+    (omega arith, l .inv .1, kept (l .inv .2) (omega arith) (passed _ _ (lt-ltb (getD (s .table .now) (l .p) 0) (s .n) (omega arith))))
 
 returns : tie.Need-returns Inv-loop μ-loop Inv-entries μ-entries
-unfolding keeps
+unfolding lawReply
 returns c = let l = c .before .before .before .before .loop in
     let s = c .before .before .before .before .before .before .before .args in
-    sym (broken (l .inv .2) (omega arith) (le-ltb (getD (s .table .now) (l .p) 0) (s .n) (omega arith)))
+    sym (broken (l .inv .2) (omega arith) (failed _ _ (le-ltb (getD (s .table .now) (l .p) 0) (s .n) (omega arith))))
 
 returns-2 : tie.Need-returns-2 Inv-loop μ-loop Inv-entries μ-entries
 returns-2 c = sym (closes (c .before .loop .inv .2) (omega arith) ∙ no-more _ _)

@@ -4,9 +4,8 @@ use mathlib.Core.Path.{refl, sym, _∙_}
 use mathlib.Core.List.{[], _∷_, _++_}
 use Prim.Native.Nat.{_+_, _-_, _≤_}
 use native.Mathlib.Omega.{arith}
-use borrow.Author.Tests.{eq-eqb, ne-eqb}
-use Rattle.tables.specs.Check.{Law, forEach, keeps, pairs, firstBreach}
-use Rattle.tables.proofs.Scan.{Loop, rest, begins, opens, kept, broken, closes, no-more, told}
+use Rattle.tables.specs.Check.{Law, lawReply, forEach, pairs, firstBreach}
+use Rattle.tables.proofs.Scan.{Loop, rest, begins, opens, equal, unequal, kept, broken, closes, no-more, told}
 use Rattle.tables.proofs.first_pair.Statement.{statement}
 use Rattle.tables.proofs.first_pair.Tie as tie
 
@@ -57,11 +56,11 @@ loop2-less : tie.Need-loop2-less Inv-loop2 μ-loop2 Inv-loop μ-loop Inv-pairs �
 loop2-less c = omega arith
 
 loop2-again : tie.Need-loop2-again Inv-loop2 μ-loop2 Inv-loop μ-loop Inv-pairs μ-pairs
-unfolding keeps
+unfolding lawReply
 loop2-again c = (
   omega arith,
   kept (c .before .before .before .before .loop2 .inv .1) (c .before .before .before .loop2-test .taken)
-      (eq-eqb _ _ (sym (c .before .before .kind-at .ensures .0) ∙ c .if1 .left ∙ c .before .kind-at2 .ensures .0)),
+      (equal _ _ (sym (c .before .before .kind-at .ensures .0) ∙ c .if1 .left ∙ c .before .kind-at2 .ensures .0)),
 )
 
 add-i : tie.Need-add-i Inv-loop2 μ-loop2 Inv-loop μ-loop Inv-pairs μ-pairs
@@ -74,10 +73,10 @@ loop-again : tie.Need-loop-again Inv-loop2 μ-loop2 Inv-loop μ-loop Inv-pairs �
 loop-again c = (omega arith, record { is = closes (c .before .loop2 .inv .1) (c .loop2-test .left) })
 
 returns : tie.Need-returns Inv-loop2 μ-loop2 Inv-loop μ-loop Inv-pairs μ-pairs
-unfolding keeps
+unfolding lawReply
 returns c = told (c .offset .ensures)
     (broken (c .before .before .before .before .before .loop2 .inv .1) (c .before .before .before .before .loop2-test .taken)
-    (ne-eqb _ _ (λ e. c .before .if1 .taken (c .before .before .before .kind-at .ensures .0 ∙ e ∙ sym (c .before .before .kind-at2 .ensures .0)))))
+    (unequal _ _ (λ e. c .before .if1 .taken (c .before .before .before .kind-at .ensures .0 ∙ e ∙ sym (c .before .before .kind-at2 .ensures .0)))))
 
 returns-2 : tie.Need-returns-2 Inv-loop2 μ-loop2 Inv-loop μ-loop Inv-pairs μ-pairs
 returns-2 c = sym (closes (c .before .loop .inv .1) (c .loop-test .left) ∙ no-more _ _)

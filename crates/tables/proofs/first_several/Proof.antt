@@ -1,9 +1,10 @@
--- `tables::first_several` meets its contract: nothing is broken where the masks show it, and else the two parts of the order are looked at.
+-- `tables::first_several` meets its contract: nothing is broken where the fast test passes, and else the two parts of the order are looked at.
 -- Assumes nothing.
 use mathlib.Core.Path.{_∙_, sym}
 use Rattle.tables.specs.Check.{pairs}
 use Rattle.replies.proofs.Laws.{tested}
 use Rattle.tables.proofs.Scan.{first-of, second-of}
+use Rattle.tables.proofs.Lawfulness.{several-pass}
 use borrow.Author.Needs.{needs}
 use Rattle.tables.proofs.first_several.Statement.{statement}
 use Rattle.tables.proofs.first_several.Tie as tie
@@ -12,7 +13,7 @@ embeds-requires : tie.Need-embeds-requires
 embeds-requires c κs = search needs
 
 returns : tie.Need-returns
-returns c = sym (c .before .embeds .ensures (c .if1 .taken))
+returns c = let meet = c .before .embeds .ensures (c .if1 .taken) in sym (several-pass _ _ (meet .0) (meet .1))
 
 first-pair-requires : tie.Need-first-pair-requires
 first-pair-requires c κs = search needs

@@ -5,55 +5,55 @@ use mathlib.Core.List.{[], _∷_, _++_}
 use Prim.Native.Nat.{_+_, _-_, _≤_}
 use native.Mathlib.Omega.{arith}
 use Rattle.replies.specs.Replies.{refuses}
-use Rattle.tables.specs.Check.{laws, firsts, firstBreach}
+use Rattle.tables.specs.Check.{Law, singles, firstBreach}
 use Rattle.tables.proofs.Scan.{Loop, begins, passes, stops, closes, no-more}
 use Rattle.tables.proofs.first_single.Statement.{statement}
 use Rattle.tables.proofs.first_single.Tie as tie
 
 abbrev Inv-loop : tie.InvT-loop
-Inv-loop table n i₀ i = (i ≤ n) × Loop n table (firstBreach n table (firsts n)) laws i n []
+Inv-loop table n i₀ i = (i ≤ n) × Loop n table (firstBreach n table (singles n)) (λ k. Law.self k ∷ Law.none k ∷ Law.any k ∷ []) i n []
 
 abbrev μ-loop : tie.MeasureT-loop
 μ-loop table n i₀ i = n - i
 
-abbrev Inv-firsts : tie.InvT-firsts
-Inv-firsts table n = Unit {0}
+abbrev Inv-singles : tie.InvT-singles
+Inv-singles table n = Unit {0}
 
-abbrev μ-firsts : tie.MeasureT-firsts
-μ-firsts table n = 0
+abbrev μ-singles : tie.MeasureT-singles
+μ-singles table n = 0
 
-firsts-holds : tie.Need-firsts-holds Inv-loop μ-loop Inv-firsts μ-firsts
-firsts-holds c = tt
+singles-holds : tie.Need-singles-holds Inv-loop μ-loop Inv-singles μ-singles
+singles-holds c = tt
 
-loop-holds : tie.Need-loop-holds Inv-loop μ-loop Inv-firsts μ-firsts
-unfolding firsts
+loop-holds : tie.Need-loop-holds Inv-loop μ-loop Inv-singles μ-singles
+unfolding singles
 loop-holds c = (omega arith, begins _ _ _ _)
 
-breach-at-requires : tie.Need-breach-at-requires Inv-loop μ-loop Inv-firsts μ-firsts
+breach-at-requires : tie.Need-breach-at-requires Inv-loop μ-loop Inv-singles μ-singles
 breach-at-requires c κs = let p = c .before .before .before .before .pre in (p .0, (p .1, omega arith))
 
-is-refusal-requires : tie.Need-is-refusal-requires Inv-loop μ-loop Inv-firsts μ-firsts
+is-refusal-requires : tie.Need-is-refusal-requires Inv-loop μ-loop Inv-singles μ-singles
 is-refusal-requires c κs = tt
 
-add-i : tie.Need-add-i Inv-loop μ-loop Inv-firsts μ-firsts
+add-i : tie.Need-add-i Inv-loop μ-loop Inv-singles μ-singles
 add-i c = omega arith
 
-loop-less : tie.Need-loop-less Inv-loop μ-loop Inv-firsts μ-firsts
+loop-less : tie.Need-loop-less Inv-loop μ-loop Inv-singles μ-singles
 loop-less c = omega arith
 
-loop-again : tie.Need-loop-again Inv-loop μ-loop Inv-firsts μ-firsts
+loop-again : tie.Need-loop-again Inv-loop μ-loop Inv-singles μ-singles
 loop-again c = (
   omega arith,
   passes (c .before .before .before .before .loop .inv .1) (c .before .before .before .loop-test .taken)
       (ap refuses (sym (c .before .before .breach-at .ensures)) ∙ sym (c .before .is-refusal .ensures) ∙ c .if1 .left),
 )
 
-returns : tie.Need-returns Inv-loop μ-loop Inv-firsts μ-firsts
+returns : tie.Need-returns Inv-loop μ-loop Inv-singles μ-singles
 returns c = let e = c .before .before .breach-at .ensures in
     e ∙ sym (stops (c .before .before .before .before .loop .inv .1) (c .before .before .before .loop-test .taken)
     (ap refuses (sym e) ∙ sym (c .before .is-refusal .ensures) ∙ c .if1 .taken))
 
-returns-2 : tie.Need-returns-2 Inv-loop μ-loop Inv-firsts μ-firsts
+returns-2 : tie.Need-returns-2 Inv-loop μ-loop Inv-singles μ-singles
 returns-2 c = sym (closes (c .before .loop .inv .1) (c .loop-test .left) ∙ no-more _ _)
 
 pub first-single-spec : {M : Type 1} → statement M
@@ -62,9 +62,9 @@ first-single-spec =
     (tie.spec
     Inv-loop
     μ-loop
-    Inv-firsts
-    μ-firsts
-    firsts-holds
+    Inv-singles
+    μ-singles
+    singles-holds
     loop-holds
     breach-at-requires
     is-refusal-requires

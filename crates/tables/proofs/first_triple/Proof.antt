@@ -1,13 +1,14 @@
 -- `tables::first_triple` meets its contract. At i, j, k, the reply is that to the triples of i, j from k on, then to those of i after j, then to those
 -- after i.
 -- Assumes nothing.
-use mathlib.Core.Path.{refl, sym, _∙_}
+use mathlib.Core.Path.{refl, sym, ap, _∙_}
 use mathlib.Core.List.{[], _∷_, _++_}
 use Prim.Native.Nat.{_+_, _-_, _≤_}
 use native.Mathlib.Omega.{arith}
 use borrow.Author.Tests.{not-true, not-false}
-use Rattle.tables.specs.Check.{Law, forEach, keeps, triples, firstBreach}
-use Rattle.tables.proofs.Scan.{Loop, rest, begins, opens, kept, broken, closes, no-more, told}
+use Rattle.replies.specs.Replies.{refuses}
+use Rattle.tables.specs.Check.{Law, forEach, triples, firstBreach}
+use Rattle.tables.proofs.Scan.{Loop, rest, begins, opens, passed, failed, kept, broken, closes, no-more, told}
 use Rattle.tables.proofs.first_triple.Statement.{statement}
 use Rattle.tables.proofs.first_triple.Tie as tie
 
@@ -101,7 +102,7 @@ loop3-again :
     tie.Need-loop3-again Inv-loop3 μ-loop3 Inv-loop2 μ-loop2 Inv-loop μ-loop Inv-triples μ-triples
 loop3-again c = (
   omega arith,
-  kept (c .before .before .before .loop3 .inv .1) (c .before .before .loop3-test .taken) (sym (c .before .groups .ensures) ∙ not-false _ (c .if1 .left)),
+  kept (c .before .before .before .loop3 .inv .1) (c .before .before .loop3-test .taken) (ap refuses (c .before .groups .ensures) ∙ passed _ _ (not-false (c .before .groups .result) (c .if1 .left))),
 )
 
 add-j : tie.Need-add-j Inv-loop3 μ-loop3 Inv-loop2 μ-loop2 Inv-loop μ-loop Inv-triples μ-triples
@@ -129,7 +130,7 @@ loop-again c = (omega arith, record { is = closes (c .before .loop2 .inv .1) (c 
 returns :
     tie.Need-returns Inv-loop3 μ-loop3 Inv-loop2 μ-loop2 Inv-loop μ-loop Inv-triples μ-triples
 returns c = told (c .offset .ensures)
-    (broken (c .before .before .before .before .loop3 .inv .1) (c .before .before .before .loop3-test .taken) (sym (c .before .before .groups .ensures) ∙ not-true _ (c .before .if1 .taken)))
+    (broken (c .before .before .before .before .loop3 .inv .1) (c .before .before .before .loop3-test .taken) (c .before .before .groups .ensures ∙ failed _ _ (not-true (c .before .before .groups .result) (c .before .if1 .taken))))
 
 returns-2 :
     tie.Need-returns-2 Inv-loop3 μ-loop3 Inv-loop2 μ-loop2 Inv-loop μ-loop Inv-triples μ-triples

@@ -15,12 +15,13 @@ use Rattle.meaning.specs.Form.{classes}
 use Rattle.meaning.specs.Rig.{meetOf}
 use Rattle.meaning.specs.Solving.{rigNumber}
 use Rattle.meaning.specs.Asking.{Extends}
-use Rattle.packets.specs.Packet.{packetReply, factsWanted}
 use Rattle.packets.specs.Facts.{rigFacts}
+use Rattle.screening.specs.Screening.{packetReply, factsWanted}
 use Rattle.solver.specs.Unpacked.{Ready, Took, Folded, formOf}
 use Rattle.solver.proofs.Run.{classes-le}
 use Rattle.solver.proofs.Folding.{folded-took}
-use Rattle.blocks.specs.Layout.{kindsOf, jointsOf, blockForm, rigOf}
+use Rattle.joints.specs.Layout.{kindsOf, jointsOf, blockForm}
+use Rattle.blocks.specs.Layout.{rigOf}
 use Rattle.blocks.proofs.Shape.{GoodBlock}
 use Rattle.blocks.proofs.Read.{Read, read-back, as-read}
 use Rattle.taking.proofs.Taking.{taken-good}

@@ -31,7 +31,7 @@ slice-aggregate-store-3 c = search needs
 store-requires : tie.Need-store-requires
 store-requires c κs =
     let s = c .before .before .before .before .before .before .before .before .before in
-    (s .pre, (omega (arith, classes-long s), omega (arith, kinds-long s), omega (arith, links-long s)))
+    (omega (arith, s .pre), (omega (arith, classes-long s), omega (arith, kinds-long s), omega (arith, links-long s)))
 
 same-length : tie.Need-same-length
 same-length c = search needs

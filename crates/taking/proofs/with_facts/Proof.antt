@@ -11,7 +11,7 @@ use Rattle.meaning.specs.Solving.{rigNumber}
 use Rattle.packets.specs.Packet.{factCount}
 use Rattle.runs.specs.Runs.{each}
 use Rattle.packets.specs.Facts.{factOf}
-use Rattle.packets.proofs.Packet.{fact-inside}
+use Rattle.screening.proofs.Screening.{fact-inside}
 use Rattle.solver.specs.Unpacked.{formOf, nodeFact}
 use Rattle.solver.proofs.Folding.{Folding, fold-begins, fold-next, fold-stops, fold-ends}
 use Rattle.taking.proofs.Taking.{nodeFactAt, packet-well, node-fact-in, of-packet}

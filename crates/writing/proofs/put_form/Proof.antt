@@ -3,7 +3,7 @@
 use Prim.Native.Nat.{_≤_}
 use native.Mathlib.Omega.{arith}
 use Rattle.meaning.specs.Form.{takenFacts}
-use Rattle.blocks.specs.Layout.{blockForm}
+use Rattle.joints.specs.Layout.{blockForm}
 use Rattle.writing.proofs.Putting.{form-put}
 use Rattle.writing.proofs.Writing.{facts-room, put-short, form-done}
 use borrow.Author.Needs.{needs}

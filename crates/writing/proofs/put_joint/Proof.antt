@@ -1,6 +1,6 @@
 -- `writing::put_joint` meets its contract: the case of the class that was read.
 -- Assumes nothing.
-use Rattle.blocks.specs.Layout.{blockForm}
+use Rattle.joints.specs.Layout.{blockForm}
 use Rattle.writing.proofs.Putting.{other-room, other-put, kind-room, links-room, smallest-put}
 use borrow.Author.Needs.{needs}
 use Rattle.writing.proofs.put_joint.Statement.{statement}

@@ -3,7 +3,7 @@
 use Prim.Native.Nat.{_-_, _+_, _≤_}
 use native.Mathlib.Omega.{arith}
 use Rattle.meaning.specs.Form.{factsAt, factsFrom}
-use Rattle.blocks.specs.Layout.{blockForm}
+use Rattle.joints.specs.Layout.{blockForm}
 use Rattle.writing.specs.Putting.{formBytes}
 use Rattle.writing.proofs.Putting.{Putting, put-room, put-goes-on, put-ends, jointsLeft, joints-begin, joints-step, joints-end}
 use Rattle.writing.proofs.put_joints.Statement.{statement}

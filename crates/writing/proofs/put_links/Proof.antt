@@ -4,7 +4,7 @@ use mathlib.Core.Path.{refl}
 use Prim.Native.Nat.{_-_, _+_, _≤_}
 use native.Mathlib.Omega.{arith}
 use Rattle.meaning.specs.Form.{linksFrom}
-use Rattle.blocks.specs.Layout.{blockForm}
+use Rattle.joints.specs.Layout.{blockForm}
 use Rattle.writing.specs.Putting.{formBytes, linkBytes}
 use Rattle.writing.proofs.Putting.{Putting, put-begins, put-room, put-goes-on, put-ends, linksLeft, links-step, links-end}
 use Rattle.writing.proofs.put_links.Statement.{statement}

@@ -11,7 +11,7 @@ use Rattle.replies.specs.Replies.{refuses}
 use Rattle.replies.specs.declared.Reply.{Reply}
 use Rattle.runs.specs.Runs.{allZero}
 use Rattle.blocks.specs.WellFormed.{tableFits}
-use Rattle.blocks.proofs.Checks.{first-fails, first-passes, in-between}
+use Rattle.fitting.proofs.Checks.{first-fails, first-passes, in-between}
 use borrow.Author.Needs.{needs}
 use Rattle.blocks.proofs.table.table_fits.Statement.{statement}
 use Rattle.blocks.proofs.table.table_fits.Tie as tie
@@ -30,8 +30,8 @@ returns : tie.Need-returns
 unfolding tableFits
 returns c = first-fails _ (c .before .in-range .ensures) (c .if1 .taken)
 
-mul-check : tie.Need-mul-check
-mul-check c = omega (arith, square c)
+mul-end : tie.Need-mul-end
+mul-end c = omega (arith, square c)
 
 slice-aggregate-check : tie.Need-slice-aggregate-check
 slice-aggregate-check c = sym (length-take-le _ _ (omega (arith, square (c .before), c .before .before .before .before .pre)))
@@ -54,9 +54,6 @@ returns-2 c =
     let one = c .before .before .before .before in
     first-passes _ (one .before .in-range .ensures) (one .if1 .left)
     (first-fails _ (ap not (tested-so (c .before .before .check .ensures) (c .before .is-refusal .ensures))) (ap (λ (t : Bool). not (not t)) (c .if2 .taken)))
-
-mul-is-zero : tie.Need-mul-is-zero
-mul-is-zero c = omega (arith, square (c .before .before .before .before))
 
 sub-is-zero : tie.Need-sub-is-zero
 sub-is-zero c = omega (arith, square (c .before .before .before .before), c .before .before .before .before .before .before .before .pre)
@@ -86,12 +83,11 @@ table-fits-spec =
     (tie.spec
     in-range-requires
     returns
-    mul-check
+    mul-end
     slice-aggregate-check
     check-requires
     is-refusal-requires
     returns-2
-    mul-is-zero
     sub-is-zero
     part-is-zero-start
     part-is-zero-end

@@ -4,7 +4,7 @@ use mathlib.Core.Path.{refl, sym}
 use native.Mathlib.Omega.{arith}
 use lib.ListN.{length}
 use lib.Seq.{length-take-le}
-use Rattle.blocks.proofs.Checks.{front-written, zeros-written}
+use Rattle.joints.proofs.Written.{front-written, zeros-written}
 use borrow.Author.Needs.{needs}
 use Rattle.blocks.proofs.table.write_table.Statement.{statement}
 use Rattle.blocks.proofs.table.write_table.Tie as tie

@@ -1,0 +1,3 @@
+pub mod Tests
+pub mod Checks
+pub mod Shape

@@ -1,0 +1,4 @@
+pub mod Screening
+pub mod WellFormed
+pub mod Converse
+pub mod Written

@@ -1,0 +1,2 @@
+pub mod Screening
+pub mod Whole
