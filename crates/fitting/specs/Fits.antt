@@ -14,7 +14,7 @@ all f i zero = true
 all f i (suc count) = f i && all f (suc i) count
 
 module _ (v : ℕ) (S : Form) where
-  -- j is a class's smallest joint
+  -- j is a joint that numbers a class: its smallest, as class numbers are at most their joints
   abbrev pub smallest : ℕ → Bool
   smallest j = ltb j v && eqb (S .class j) j
 
@@ -31,6 +31,7 @@ module _ (n v : ℕ) (S : Form) where
   abbrev pub kindFits : ℕ → Bool
   kindFits j = cond (smallest v S j) (leb 1 (S .kind j) && ltb (S .kind j) n) (eqb (S .kind j) 0)
 
+  -- class, kind and links of joint j fit
   abbrev pub jointFits : ℕ → Bool
   jointFits j = classFits v S j && (kindFits j && all (linkFits v S j) 0 16)
 

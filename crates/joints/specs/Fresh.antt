@@ -1,4 +1,5 @@
--- The session's own bytes as opening writes them: each of the v joints is a class of its own, with kind 1 and no known link.
+-- The session's own bytes as opening writes them: each of the v joints is a class of its own, with kind 1 and no known link;
+-- from v on there are zeros.
 -- Assumes nothing.
 use mathlib.Core.Bool.{cond}
 use mathlib.Core.List.{List, _∷_, _++_}

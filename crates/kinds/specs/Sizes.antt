@@ -5,7 +5,7 @@ use mathlib.Core.List.{List}
 use Prim.Native.Nat.{ℕ, _*_, _≤_, _<_}
 use lib.ListN.{length, getD}
 
--- a table of n kinds has n × n bytes
+-- a table of n kinds, 2 to 64 of them, has n × n bytes
 pub record Sized (n : ℕ) (table : List ℕ) : Type 0 where
   pub low : 2 ≤ n
   pub high : n ≤ 64

@@ -1,5 +1,5 @@
 -- What a call rests on, beside the facts themselves: the kinds with their table, the joints, and which pictures count. Clash, meaning and
--- verdicts are stated over it.
+-- verdicts are stated over it, and bytes stand for it.
 -- Assumes nothing.
 use mathlib.Core.Logic.{_↔_}
 use mathlib.Core.List.{List}
@@ -7,7 +7,7 @@ use Prim.Native.Nat.{ℕ}
 use Rattle.kinds.specs.Kinds.{meetAt}
 use Rattle.meaning.specs.Picture.{Picture, Placing, Fact, All}
 
--- the pictures that count: every one
+-- which pictures count. So far all do
 pub data Profile : Type 0 where
   every : Profile
 

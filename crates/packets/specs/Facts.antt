@@ -13,7 +13,8 @@ use Rattle.meaning.specs.Rule.{Rule, ruleJoint}
 use Rattle.meaning.specs.Form.{rigJoint}
 use Rattle.packets.specs.Packet.{byte, ties, joints, tieAt, factAt, factCount}
 
--- the fact at a byte: 1, a, kind, 0 or 2, a, b, 0 or 3, a, link, c, where `joint` makes a joint of its number
+-- the fact at a byte: 1, a, kind, 0 or 2, a, b, 0 or 3, a, link, c, where `joint` makes a joint of its number. It is asked only where no reply from
+-- 5 to 9 fits, and so of no other tag
 unfoldable pub factOf : {J : Type 0} → (ℕ → J) → List ℕ → ℕ → Fact J
 factOf joint p at =
     cond (eqb (byte p at) 1) (has-kind (joint (byte p (at + 1))) (byte p (at + 2)))

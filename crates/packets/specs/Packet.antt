@@ -7,7 +7,7 @@ use lib.ListN.{getD}
 abbrev pub byte : List ℕ → ℕ → ℕ
 byte p i = getD p i 0
 
--- L, the number of bytes after the first two
+-- L, big-endian: the number of bytes after the first two
 abbrev pub L : List ℕ → ℕ
 L p = 256 * byte p 0 + byte p 1
 

@@ -6,10 +6,10 @@ use Rattle.replies.specs.declared.Cause.the-variants.{NotReached}
 use Rattle.replies.specs.declared.Reply.the-variants.{Done, Refused}
 use Rattle.meaning.specs.Rule.{Rule, Reached, ruleJoint}
 
--- all joints below n are so, and the reply is done; or j is the smallest that is not, and is the reply's place
-pub data SmallestNot (Is : ℕ → Type 0) (n : ℕ) : Reply → Type 0 where
-  all : ((j : ℕ) → j < n → Is j) → SmallestNot Is n (Done 0)
-  not-reached : (j : ℕ) → j < n → (Is j → ⊥) → ((i : ℕ) → i < j → Is i) → SmallestNot Is n (Refused NotReached j)
+-- all joints below count are so, and the reply is done; or j is the smallest that is not, and is the reply's place
+pub data SmallestNot (Is : ℕ → Type 0) (count : ℕ) : Reply → Type 0 where
+  all : ((j : ℕ) → j < count → Is j) → SmallestNot Is count (Done 0)
+  not-reached : (j : ℕ) → j < count → (Is j → ⊥) → ((i : ℕ) → i < j → Is i) → SmallestNot Is count (Refused NotReached j)
 
 -- the reply to a rule that no reply from 5 to 9 refuses
 abbrev pub ReachReply : Rule → Reply → Type 0

@@ -1,4 +1,5 @@
--- Replies 5 to 9: whether a packet is well formed, and the reply to the first thing that is wrong with it.
+-- Replies 5 to 9: what can be wrong with the bytes of a packet, and the reply to the first thing that is. (A packet is well formed when 10 does
+-- not fit it either: crates/reach.)
 -- Assumes nothing.
 use mathlib.Core.Bool.{Bool, false, _&&_, cond}
 use mathlib.Core.List.{List, [], _∷_}
@@ -45,11 +46,11 @@ factFits n p at =
 unfoldable pub firstUnfit : (ℕ → Bool) → (ℕ → ℕ) → ℕ → ℕ → Reply
 firstUnfit fits at i count = firstRefusal (each (λ k. unless (fits (at k)) BadPart (at k)) i count) (Done 0)
 
--- the ties, of which each has one of v rig joints
+-- the first tie that does not fit, where there are v rig joints
 abbrev pub firstBadTie : ℕ → List ℕ → Reply
 firstBadTie v p = firstUnfit (tieFits v p) tieAt 0 (ties p)
 
--- the facts, with kinds below n
+-- the first fact that does not fit, where there are n kinds
 abbrev pub firstBadFact : ℕ → List ℕ → Reply
 firstBadFact n p = firstUnfit (factFits n p) (factAt p) 0 (factCount p)
 

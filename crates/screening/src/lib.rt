@@ -1,4 +1,4 @@
-// Whether a packet is well formed: replies 5 to 9 to any bytes.
+// Replies 5 to 9, to any bytes.
 ghost use mathlib.Core.Path.{_≡_};
 ghost use mathlib.Core.Bool.{_&&_};
 ghost use Prim.Native.Nat.{_+_, _*_, _≤_};

@@ -11,7 +11,7 @@ use Rattle.replies.specs.Replies.{unless, firstRefusal}
 use Rattle.kinds.specs.Kinds.{meetAt}
 
 pub data Law : Type 0 where
-  -- the entry at p is a kind
+  -- the entry at p is a kind: no law of its own in 01, but looked at before them
   entry : ℕ → Law
   -- meet(i,i) = i
   self : ℕ → Law
@@ -34,10 +34,10 @@ lawReply n table (any i) = unless (eqb (meetAt n table 1 i) i) LawBroken (1 * n 
 lawReply n table (swap i j) = unless (eqb (meetAt n table i j) (meetAt n table j i)) LawBroken (i * n + j)
 lawReply n table (group i j k) = unless (eqb (meetAt n table (meetAt n table i j) k) (meetAt n table i (meetAt n table j k))) LawBroken (i * n + j)
 
--- the laws of f for each i below n, in rising order
+-- the laws of f for each i below count, in rising order
 unfoldable pub forEach : ℕ → (ℕ → List Law) → List Law
 forEach zero f = []
-forEach (suc n) f = forEach n f ++ f n
+forEach (suc count) f = forEach count f ++ f count
 
 unfoldable pub entries : ℕ → List Law
 entries n = forEach (n * n) (λ p. entry p ∷ [])
@@ -57,7 +57,7 @@ triples n = forEach n (λ i. forEach n (λ j. forEach n (λ k. group i j k ∷ [
 abbrev pub inOrder : ℕ → List Law
 inOrder n = entries n ++ (singles n ++ (pairs n ++ triples n))
 
--- the reply to the first law of the list that the table breaks
+-- the reply to the first law of the list that the table breaks; done where it breaks none
 unfoldable pub firstBreach : ℕ → List ℕ → List Law → Reply
 firstBreach n table list = firstRefusal (map (lawReply n table) list) (Done 0)
 

@@ -1,4 +1,5 @@
--- The house table handed to the host: 1 unless the buffer has exactly 1,089 bytes, otherwise done with the table written.
+-- The house table handed to the host: 1 unless the buffer has exactly 1,089 bytes, otherwise done with the table written. 01 has no row for this
+-- call; docs/DECISIONS.md tells why it answers so.
 -- Assumes nothing.
 use mathlib.Core.Bool.{cond}
 use mathlib.Core.List.{List}
