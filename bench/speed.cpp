@@ -1,11 +1,14 @@
-// The library beside the plain C++ version. Both run the same call on the same bytes, turn by turn in one process; each
-// turn gives one ratio, and the line shows the middle one. Before a line is measured both must have given the same
-// number and left the same bytes.
+// The library beside two C++ versions: the fast one (fast.cpp) and the plain one (tests/host/reference.cpp). All three
+// run the same call on the same bytes, turn by turn in one process; each turn gives one ratio to either version, and
+// the line shows the middle ones. Before a line is measured all three must have given the same number and left the same
+// bytes.
 
+#include "fast.hpp"
 #include "implementation.hpp"
 #include "library.hpp"
 #include "work.hpp"
 
+#include <array>
 #include <chrono>
 #include <cstdio>
 #include <cstdlib>
@@ -17,8 +20,10 @@ namespace {
 
 using Clock = std::chrono::steady_clock;
 
-using host::library;
 const paper::Calls& plain = paper::calls(paper::Fault::none);
+
+enum Version { library, fast_cpp, plain_cpp, version_count };
+const std::array<const paper::Calls*, version_count> versions = {&host::library, &fast::calls, &plain};
 
 // A call writes into its own slot, so that taking can be repeated on the same start.
 constexpr size_t slots = 32;
@@ -31,10 +36,15 @@ struct Work {
     std::function<std::uint64_t(const paper::Calls&, host::Byte* slot)> call;
 };
 
-struct Figures {
-    double ratio;
+// How many times the library takes the time of another version.
+struct Ratio {
+    double middle;
     double low, high; // a quarter of the turns lies below, a quarter above
-    double library_ns, plain_ns;
+};
+
+struct Figures {
+    Ratio to_fast, to_plain;
+    std::array<double, version_count> nanoseconds;
 };
 
 double middle(std::vector<double> values, double part = 0.5)
@@ -56,28 +66,38 @@ double nanoseconds_each(const Work& work, const paper::Calls& calls, Bytes& memo
 
 void must_agree(const Work& work)
 {
-    Bytes ours = work.start;
-    Bytes theirs = work.start;
-    if (work.call(library, ours.data()) == work.call(plain, theirs.data()) && ours == theirs)
-        return;
-    std::fprintf(stderr, "%s: the two versions differ\n", work.name.c_str());
-    std::exit(1);
+    Bytes expected = work.start;
+    const std::uint64_t answer = work.call(plain, expected.data());
+    for (const paper::Calls* calls : versions) {
+        Bytes bytes = work.start;
+        if (work.call(*calls, bytes.data()) == answer && bytes == expected)
+            continue;
+        std::fprintf(stderr, "%s: the versions differ\n", work.name.c_str());
+        std::exit(1);
+    }
+}
+
+Ratio ratio_of(const std::vector<double>& ours, const std::vector<double>& theirs)
+{
+    std::vector<double> ratios;
+    for (size_t turn = 0; turn < ours.size(); turn++)
+        ratios.push_back(ours[turn] / theirs[turn]);
+    return {middle(ratios), middle(ratios, 0.25), middle(ratios, 0.75)};
 }
 
 Figures measured(const Work& work, size_t rounds)
 {
     must_agree(work);
     Bytes memory(slots * slot_room);
-    std::vector<double> ratios, ours, theirs;
-    for (size_t round = 0; round < rounds; round++) {
-        const bool library_first = round % 2 == 0;
-        const double first = nanoseconds_each(work, library_first ? library : plain, memory);
-        const double second = nanoseconds_each(work, library_first ? plain : library, memory);
-        ours.push_back(library_first ? first : second);
-        theirs.push_back(library_first ? second : first);
-        ratios.push_back(ours.back() / theirs.back());
-    }
-    return {middle(ratios), middle(ratios, 0.25), middle(ratios, 0.75), middle(ours), middle(theirs)};
+    std::array<std::vector<double>, version_count> times;
+    for (size_t round = 0; round < rounds; round++)
+        for (size_t turn = 0; turn < version_count; turn++) {
+            const size_t version = (round + turn) % version_count;
+            times[version].push_back(nanoseconds_each(work, *versions[version], memory));
+        }
+    return {ratio_of(times[library], times[fast_cpp]),
+            ratio_of(times[library], times[plain_cpp]),
+            {middle(times[library]), middle(times[fast_cpp]), middle(times[plain_cpp])}};
 }
 
 // ------------------------------------------------------------------- the work
@@ -128,55 +148,82 @@ Work writing(const std::string& name, const Bytes& block)
             }};
 }
 
-// Every two kinds meet in kind 0 but for 61 and 62, which meet in 60. The first triple that tells is (60, 61, 62).
-Kinds broken_late()
+// Every two kinds meet in kind 0 but for the last three, of which the last two meet in the first: the first triple
+// that tells is theirs.
+Kinds broken_late(size_t n)
 {
-    host::Random random(64);
-    Kinds kinds = host::flat_kinds(64, random);
-    kinds.table[61 * 64 + 62] = kinds.table[62 * 64 + 61] = 60;
+    host::Random random(n);
+    Kinds kinds = host::flat_kinds(n, random);
+    kinds.table[(n - 2) * n + n - 1] = kinds.table[(n - 1) * n + n - 2] = static_cast<host::Byte>(n - 3);
+    return kinds;
+}
+
+// The same with kinds 2, 3 and 4.
+Kinds broken_early(size_t n)
+{
+    host::Random random(n);
+    Kinds kinds = host::flat_kinds(n, random);
+    kinds.table[3 * n + 4] = kinds.table[4 * n + 3] = 2;
     return kinds;
 }
 
 void line(const Work& work, size_t rounds)
 {
     const Figures f = measured(work, rounds);
-    std::printf("%-46s %6.2f  (%4.2f to %4.2f) %12.0f %12.0f\n", work.name.c_str(), f.ratio, f.low, f.high,
-                f.library_ns, f.plain_ns);
+    std::printf("%-46s %6.2f  (%4.2f to %4.2f) %6.2f  (%4.2f to %4.2f) %9.0f %9.0f %9.0f\n", work.name.c_str(),
+                f.to_fast.middle, f.to_fast.low, f.to_fast.high, f.to_plain.middle, f.to_plain.low, f.to_plain.high,
+                f.nanoseconds[library], f.nanoseconds[fast_cpp], f.nanoseconds[plain_cpp]);
     std::fflush(stdout);
 }
 
 void heading(const char* text)
 {
-    std::printf("\n%-46s %6s  %14s %12s %12s\n", text, "ratio", "middle half", "library ns", "plain ns");
+    std::printf("\n%-46s %6s  %14s %6s  %14s %9s %9s %9s\n", text, "fast", "middle half", "plain", "middle half",
+                "library", "fast ns", "plain ns");
 }
 
-void main_table(size_t rounds)
+void opening_table(size_t rounds)
 {
-    heading("calls");
+    heading("open");
     for (const size_t n : {8, 33, 64})
-        line(opening("open, n = " + std::to_string(n), kinds_of(n), 25), rounds);
-    line(opening("open, n = 64, refused at triple 60, 61, 62", broken_late(), 25), rounds);
+        line(opening("n = " + std::to_string(n) + (n == 33 ? ", house kinds" : ""), kinds_of(n), 25), rounds);
+    host::Random random(33);
+    line(opening("n = 33, other kinds", host::family_kinds(33, random), 25), rounds);
+    line(opening("n = 64, refused at triple 61, 62, 63", broken_late(64), 25), rounds);
+    line(opening("n = 64, refused at triple 2, 3, 4", broken_early(64), 25), rounds);
+}
 
-    const Bytes humanoid_opened = opened(kinds_of(33), humanoid_joints);
-    const Bytes humanoid_known = taken(humanoid_opened, humanoid_facts());
-    line(taking("take, humanoid, 25 joints, 49 facts", humanoid_opened, humanoid_facts()), rounds);
+void humanoid_table(size_t rounds)
+{
+    heading("humanoid: 25 joints, house kinds");
+    const Bytes start = opened(kinds_of(33), humanoid_joints);
+    const Bytes known = taken(start, humanoid_facts());
+    line(taking("take, 49 facts", start, humanoid_facts()), rounds);
     std::vector<Fact> clashing = humanoid_facts();
     clashing.push_back(has_kind(8, 20)); // a left hand that is a foot
-    line(taking("take, humanoid, a clash at the last fact", humanoid_opened, clashing), rounds);
-    const Bytes large_opened = opened(kinds_of(64), most_joints);
-    const Bytes large_known = taken(large_opened, plain_facts(host::most_facts));
-    line(taking("take, worst: links, then one cascade", large_opened, worst_facts()), rounds);
-    line(taking("take, worst: 63 joins, then links", large_opened, joining_facts()), rounds);
-    line(taking("take, 1,088 facts, no join", large_opened, plain_facts(host::most_facts)), rounds);
+    line(taking("take, a clash at the last fact", start, clashing), rounds);
+    line(taking("take, 49 facts again", known, humanoid_facts()), rounds);
+    line(taking("take, one fact", known, {has_kind(8, 25)}), rounds);
+    line(asking("ask, arm rule, applies", known, applying_rule()), rounds);
+    line(asking("ask, arm rule, ruled out", known, ruled_out_rule()), rounds);
+    line(asking("ask, arm rule, waits", known, waiting_rule()), rounds);
+    line(writing("write", known), rounds);
+}
 
-    line(asking("ask, arm rule, applies", humanoid_known, applying_rule()), rounds);
-    line(asking("ask, arm rule, ruled out", humanoid_known, ruled_out_rule()), rounds);
-    line(asking("ask, arm rule, waits", humanoid_known, waiting_rule()), rounds);
-    line(asking("ask, largest, all links known", large_known, largest_rule()), rounds);
-    line(asking("ask, largest, no link known", large_opened, largest_rule()), rounds);
-
-    line(writing("write, humanoid", humanoid_known), rounds);
-    line(writing("write, 64 joints, all links known", large_known), rounds);
+void largest_table(size_t rounds)
+{
+    heading("largest: 64 joints, n = 64");
+    const Bytes start = opened(kinds_of(64), most_joints);
+    const Bytes known = taken(start, plain_facts(host::most_facts));
+    line(taking("take, links, then one cascade", start, worst_facts()), rounds);
+    line(taking("take, 63 joins, then links", start, joining_facts()), rounds);
+    line(taking("take, 1,088 facts, no join", start, plain_facts(host::most_facts)), rounds);
+    line(taking("take, one fact, 64 joints joined", taken(start, joining_facts()), {has_kind(0, 1)}), rounds);
+    line(asking("ask, largest rule, all links known", known, largest_rule()), rounds);
+    line(asking("ask, largest rule, no link known", start, largest_rule()), rounds);
+    line(asking("ask, chain of 32, first link first", start, chain_rule(true)), rounds);
+    line(asking("ask, chain of 32, last link first", start, chain_rule(false)), rounds);
+    line(writing("write, all links known", known), rounds);
 }
 
 void growth(size_t rounds)
@@ -190,6 +237,10 @@ void growth(size_t rounds)
             line(taking(std::to_string(facts) + " facts", opened(kinds_of(n), most_joints), plain_facts(facts)),
                  rounds);
     }
+    heading("with facts: ask, n = 33, chain, last link first");
+    for (const size_t facts : {31, 136, 272, 544, 1088})
+        line(asking(std::to_string(facts) + " facts", opened(kinds_of(33), most_joints), chain_rule(false, facts)),
+             rounds);
 }
 
 } // namespace
@@ -202,6 +253,8 @@ int main(int argc, char** argv)
         std::fprintf(stderr, "usage: bench/run [ROUNDS]\n");
         return 2;
     }
-    bench::main_table(static_cast<size_t>(rounds));
+    bench::opening_table(static_cast<size_t>(rounds));
+    bench::humanoid_table(static_cast<size_t>(rounds));
+    bench::largest_table(static_cast<size_t>(rounds));
     bench::growth(static_cast<size_t>(rounds));
 }

@@ -127,6 +127,19 @@ inline Rule largest_rule()
     return rule;
 }
 
+// A rule whose 32 joints are one chain of links, tied at its beginning and said over again until there are so many
+// facts: from the first link on, or from the last one on.
+inline Rule chain_rule(bool first_link_first, size_t facts = host::most_facts)
+{
+    Rule rule{host::most_rule_joints, {Tie{0, 0}}, {}};
+    const size_t links = host::most_rule_joints - 1;
+    for (size_t i = 0; i < facts; i++) {
+        const size_t link = first_link_first ? i * links / facts : (facts - 1 - i) * links / facts;
+        rule.facts.push_back(link_leads(link, 0, link + 1));
+    }
+    return rule;
+}
+
 } // namespace bench
 
 #endif

@@ -2,17 +2,27 @@
 //
 //   g++ -std=c++17 -I../../include -c stub.cpp && ar rcs libstub.a stub.o && ./run libstub.a
 //
-// With -DSTUB_FAULT=name it answers like the plain version with that fault, and a run against it has to fail.
+// With -DSTUB_FAULT=name it answers like the plain version with that fault, and a run against it has to fail. With
+// -DSTUB_FAST it answers like the version that the bench measures by (bench/fast.cpp), and a run holds that one against
+// the plain version.
 
 #include "reference.hpp"
 #include "vornulica.h"
+
+#ifdef STUB_FAST
+#include "fast.hpp"
+#endif
 
 #ifndef STUB_FAULT
 #define STUB_FAULT none
 #endif
 
 namespace {
+#ifdef STUB_FAST
+const paper::Calls& calls() { return fast::calls; }
+#else
 const paper::Calls& calls() { return paper::calls(paper::Fault::STUB_FAULT); }
+#endif
 } // namespace
 
 std::uint64_t rig_open(std::uint64_t n, std::uint64_t v, const std::uint8_t* table, std::size_t table_size,

@@ -18,6 +18,7 @@ public:
     {
         sizes();
         tables();
+        near_house_tables();
         blocks();
         packets();
         lengths();
@@ -60,6 +61,28 @@ private:
                         visit(open_with(n, 3, table, block));
                     }
         }
+    }
+
+    // The house table with one byte changed, each byte once, at opening and in a block; once more with its mirror
+    // image.
+    void near_house_tables()
+    {
+        const Kinds house = house_kinds();
+        const Bytes good = block_after(house, 3, {has_kind(0, 9), link_leads(0, 1, 2)});
+        for (size_t at = 0; at < house_length; at++) {
+            const size_t mirror = at % house.n * house.n + at / house.n;
+            Kinds near = house;
+            near.table[at] = static_cast<Byte>((near.table[at] + 1 + at % (house.n - 1)) % house.n);
+            open_and_write(near, good);
+            near.table[mirror] = near.table[at];
+            open_and_write(near, good);
+        }
+    }
+    void open_and_write(const Kinds& kinds, Bytes block)
+    {
+        visit(open_with(kinds.n, 3, kinds.table, block));
+        std::copy(kinds.table.begin(), kinds.table.end(), block.begin() + table_at);
+        visit(call_with(Name::write, {{block_slot, block}, {out_slot, Bytes(longest_solved_form, 0xee)}}));
     }
 
     Bytes block_after(const Kinds& kinds, size_t v, const std::vector<Fact>& facts)

@@ -1,20 +1,31 @@
-// The library on threads with a small stack, one call to a thread and the largest inputs among them; then four threads
-// at once, each on its own blocks; and empty slices given as null pointers, at every call.
+// The library on threads with a small stack, one call to a thread and the largest inputs among them, and how much of it
+// a call takes; then four threads at once, each on its own blocks; and empty slices given as null pointers, at every
+// call.
 //
 //   threads [--sessions N]     N random sessions, 150 if not given
 
 #include "library.hpp"
 #include "walk.hpp"
 
+#include <cstring>
+#include <map>
 #include <memory>
 
 #include <pthread.h>
+#include <sys/mman.h>
 
 namespace {
 
 using namespace host;
 
-constexpr size_t small_stack = 128 * 1024;
+#if defined(__SANITIZE_ADDRESS__)
+constexpr size_t small_stack = 128 * 1024; // the sanitizer takes most of it
+#else
+constexpr size_t small_stack = 32 * 1024;
+#endif
+constexpr size_t roomy_stack = 256 * 1024;
+// The most that a call may take of it.
+constexpr size_t most_stack = 16 * 1024;
 // So wide that a large frame cannot step over it into other memory.
 constexpr size_t stack_guard = 1024 * 1024;
 constexpr size_t threads_at_once = 4;
@@ -175,12 +186,53 @@ void record_nulls(Recorder& recorder)
 
 // -------------------------------------------------------------------- threads
 
+// A stack of its own behind a guard, filled so that what was written to can be told.
+class Stack {
+public:
+    explicit Stack(size_t its_size) : size(its_size)
+    {
+        void* mapped = mmap(nullptr, stack_guard + size, PROT_NONE, MAP_PRIVATE | MAP_ANONYMOUS, -1, 0);
+        if (mapped == MAP_FAILED) {
+            std::fprintf(stderr, "there is no memory for a stack\n");
+            std::exit(2);
+        }
+        from = static_cast<Byte*>(mapped) + stack_guard;
+        mprotect(from, size, PROT_READ | PROT_WRITE);
+    }
+    ~Stack() { munmap(from - stack_guard, stack_guard + size); }
+    Stack(const Stack&) = delete;
+    Stack& operator=(const Stack&) = delete;
+
+    // Fills what lies below the caller's frame, but for the part that filling itself may need.
+    void fill_below(const Byte& frame) { std::memset(from, filling, room_below(frame) - own_need); }
+    // How many bytes below the frame were written to since; no fewer are told than filling leaves out.
+    size_t used_below(const Byte& frame) const
+    {
+        const Byte* lowest = std::find_if(from, from + size, [](Byte x) { return x != filling; });
+        return room_below(frame) - static_cast<size_t>(lowest - from);
+    }
+
+    Byte* from;
+    const size_t size;
+
+private:
+    static constexpr Byte filling = 0xa5;
+    static constexpr size_t own_need = 512;
+
+    size_t room_below(const Byte& frame) const
+    {
+        return reinterpret_cast<std::uintptr_t>(&frame) - reinterpret_cast<std::uintptr_t>(from);
+    }
+};
+
 struct Work {
     void (*body)(Work&);
     Side* side = nullptr;
     const std::vector<Recorded>* list = nullptr;
     size_t first = 0;
     std::string problem;
+    Stack* stack = nullptr;
+    size_t stack_taken = 0;
     Bytes handler_memory = Bytes(64 * 1024);
 };
 
@@ -196,30 +248,41 @@ pthread_t start_thread(Work& work)
 {
     pthread_attr_t attributes;
     pthread_t thread;
-    if (pthread_attr_init(&attributes) != 0 || pthread_attr_setstacksize(&attributes, small_stack) != 0 ||
-        pthread_attr_setguardsize(&attributes, stack_guard) != 0 ||
+    if (pthread_attr_init(&attributes) != 0 ||
+        pthread_attr_setstack(&attributes, work.stack->from, work.stack->size) != 0 ||
         pthread_create(&thread, &attributes, thread_start, &work) != 0) {
-        std::fprintf(stderr, "a thread with a small stack cannot be started\n");
+        std::fprintf(stderr, "a thread with a stack of its own cannot be started\n");
         std::exit(2);
     }
     pthread_attr_destroy(&attributes);
     return thread;
 }
 
-// Only the call itself is made on the thread.
+// Only the call itself is made on the thread. The most stack that one of them takes, beside what the thread does, is
+// told for each kind of call.
 size_t one_call_to_a_thread(const std::vector<Recorded>& list)
 {
+    Stack stack(small_stack);
     Side side(library);
     size_t problems = 0;
     Work work;
     work.side = &side;
     work.list = &list;
-    work.body = [](Work& own) { own.side->run((*own.list)[own.first].call); };
+    work.stack = &stack;
+    work.body = [](Work& own) {
+        const Byte frame = 0;
+        own.stack->fill_below(frame);
+        own.side->run((*own.list)[own.first].call);
+        own.stack_taken = own.stack->used_below(frame);
+    };
+    std::map<Name, size_t> taken;
     for (work.first = 0; work.first < list.size() && problems < 3; work.first++) {
         const Recorded& recorded = list[work.first];
         watch::now_at("a call on a small stack: " + recorded.what);
         side.lend(recorded.call);
         pthread_join(start_thread(work), nullptr);
+        size_t& most = taken[recorded.call.name];
+        most = std::max(most, work.stack_taken);
         side.give_back(recorded.call);
         const std::string text = mismatch(side, recorded);
         if (!text.empty()) {
@@ -227,6 +290,12 @@ size_t one_call_to_a_thread(const std::vector<Recorded>& list)
             problems++;
         }
     }
+    std::printf("threads: the most stack that a call took, in bytes:");
+    for (const auto& [name, most] : taken)
+        std::printf(" %s %zu%s", name_text[static_cast<size_t>(name)], most, most > most_stack ? " (TOO MUCH)" : "");
+    std::printf("\n");
+    for (const auto& [name, most] : taken)
+        problems += most > most_stack;
     return problems;
 }
 
@@ -236,10 +305,13 @@ size_t four_at_once(const std::vector<Recorded>& list)
     watch::now_at("four threads at once");
     std::vector<Work> work(threads_at_once);
     std::vector<std::unique_ptr<Side>> sides;
+    std::vector<std::unique_ptr<Stack>> stacks;
     std::vector<pthread_t> threads;
     for (size_t i = 0; i < threads_at_once; i++) {
+        stacks.push_back(std::make_unique<Stack>(roomy_stack));
         sides.push_back(std::make_unique<Side>(library));
         work[i].side = sides[i].get();
+        work[i].stack = stacks[i].get();
         work[i].list = &list;
         work[i].first = i * list.size() / threads_at_once;
         work[i].body = [](Work& own) {
@@ -284,7 +356,7 @@ int main(int argc, char** argv)
 
     const size_t problems = one_call_to_a_thread(recorder.list) + four_at_once(recorder.list);
     std::printf("threads: %zu calls each on a thread of %zu KiB, and %zu on %zu threads at once, "
-                "%zu differing\n",
+                "%zu at fault\n",
                 recorder.list.size(), small_stack / 1024, recorder.list.size() * threads_at_once, threads_at_once,
                 problems);
     return recorder.agreed && problems == 0 ? 0 : 1;

@@ -2,7 +2,7 @@
 -- Assumes nothing.
 use mathlib.Core.Path.{_≡_, refl, sym, ap, _∙_}
 use mathlib.Core.Bool.{Bool, true, false, true≢false, false≢true}
-use mathlib.Core.List.{List, [], _∷_, _++_, map}
+use mathlib.Core.List.{List, [], map}
 use Prim.Native.Nat.{ℕ, zero, suc, _+_, _*_, _/_, _%_, _<_, _≤_}
 use native.Mathlib.Omega.{arith}
 use native.Mathlib.Nat.{not-suc-le-zero, div-add-mod', mod-lt}
@@ -35,8 +35,9 @@ use Rattle.reach.specs.Reached.{ReachReply}
 use Rattle.reach.specs.Marking.{nthFact}
 use Rattle.reach.proofs.Reached.{all-reached}
 use Rattle.solver.specs.declared.Solved.{Solved}
-use Rattle.solver.specs.Unpacked.{formOf, Ready, Took}
-use Rattle.joints.specs.Layout.{kindsOf, jointsOf, blockForm, taken}
+use Rattle.solver.specs.Unpacked.{byteClass, byteKind, formOf, Proper, Ready, Took}
+use Rattle.solver.proofs.Nodes.{held, byte-one}
+use Rattle.joints.specs.Layout.{kindsOf, jointsOf, rowsOf, blockForm, taken}
 use Rattle.blocks.specs.Layout.{tableOf, rigOf}
 use Rattle.blocks.specs.WellFormed.{blockReply}
 use Rattle.blocks.proofs.Shape.{GoodBlock, call-goes-on, block-rig, block-sized}
@@ -124,19 +125,26 @@ module _ (xs ys : List ℕ) (count : ℕ) (a : count ≤ length xs) (b : count �
       (λ i h. let k : i < count = omega (arith, n) in getD-take count xs i 0 k ∙ f i k ∙ sym (getD-take count ys i 0 k))
 
 -- the rig's part of a form, list by list; a row of links is 16 places
-module _ (v : ℕ) (s t : Solved) where
-  pub rig-same :
-      SameFront (t .class) (s .class) v → SameFront (t .kind) (s .kind) v → SameFront (t .link) (s .link) (16 * v) →
-      Settled v 0 (formOf s) (formOf t)
-  rig-same c k r =
+module _ (v : ℕ) (s t : Solved) (had rows : List ℕ) (small : v ≤ 96) (ls : length (s .node) ≡ 96) (lt : length (t .node) ≡ 96) where
+  same-node : SameFront (t .node) (s .node) v → (j : ℕ) → j < v → getD (t .node) j 128 ≡ getD (s .node) j 128
+  same-node e j h = held (t .node) 128 0 j (omega arith) ∙ e j h ∙ held (s .node) 0 128 j (omega arith)
+
+  pub rig-same : SameFront (t .node) (s .node) v → SameFront rows had (16 * v) → Settled v 0 (formOf s had) (formOf t rows)
+  rig-same e r =
       record {
-        class = c;
-        kind = k;
+        class = λ j h. ap (λ x. byteClass x j) (same-node e j h);
+        kind = λ j h. ap byteKind (same-node e j h);
         link = λ j l h b. r (j * 16 + l) (omega arith);
         inside = λ i h. absurd (not-suc-le-zero h);
       }
 
-  pub rig-rows : Settled v 0 (formOf s) (formOf t) → SameFront (t .link) (s .link) (16 * v)
+  pub rig-nodes : Proper v s → Proper v t → Settled v 0 (formOf s had) (formOf t rows) → SameFront (t .node) (s .node) v
+  rig-nodes ps pt q j h =
+      let et = held (t .node) 0 128 j (omega arith) in
+      let es = held (s .node) 0 128 j (omega arith) in
+      et ∙ byte-one _ _ j (q .class j h) (q .kind j h) (λ e. pt j h (et ∙ e)) (λ e. ps j h (es ∙ e)) ∙ sym es
+
+  pub rig-rows : Settled v 0 (formOf s had) (formOf t rows) → SameFront rows had (16 * v)
   rig-rows q i h =
       let e : (i / 16) * 16 + i % 16 ≡ i = div-add-mod' i 16 in
       let b : i % 16 < 16 = mod-lt i (omega arith) in
@@ -224,25 +232,6 @@ module _ {b p : List ℕ} (a : Asked b p) where
           well = extend-well (rig .two) (w .well) x;
         }
 
-    -- below the rig's joint count it is the form of the block
-    same-start : {T : Form} → Settled (jointsOf b) (joints p) E T → Settled (jointsOf b) (joints p) (blockForm b) T
-    same-start q =
-        record {
-          class = λ j h. q .class j h ∙ x .class-old j h;
-          kind = λ j h. q .kind j h ∙ x .kind-old j h;
-          link = λ j l h i. q .link j l h i ∙ x .link-old j l h i;
-          inside = q .inside;
-        }
-
-    start-same : {T : Form} → Settled (jointsOf b) (joints p) (blockForm b) T → Settled (jointsOf b) (joints p) E T
-    start-same q =
-        record {
-          class = λ j h. q .class j h ∙ sym (x .class-old j h);
-          kind = λ j h. q .kind j h ∙ sym (x .kind-old j h);
-          link = λ j l h i. q .link j l h i ∙ sym (x .link-old j l h i);
-          inside = q .inside;
-        }
-
     -- what the ties and facts, taken there, say of the rule
     module _
         {T : Form} {ok : Bool}
@@ -250,13 +239,38 @@ module _ {b p : List ℕ} (a : Asked b p) where
       pub ruled-out : ok ≡ false → Judged (rigOf b) (taken b) (ruleOf p) RuledOut
       ruled-out e = clash-ruled-out (block-rig (a .good .well)) (a .good .well .well) in-range small x (t .refuted e)
 
-      pub applies : ok ≡ true → Settled (jointsOf b) (joints p) E T → Judged (rigOf b) (taken b) (ruleOf p) Applies
-      applies e q = settled-applies (block-rig (a .good .well)) (a .good .well .well) in-range small x (t .taken e) (same-start q)
+      pub applies : ok ≡ true → Settled (jointsOf b) (joints p) (blockForm b) T → Judged (rigOf b) (taken b) (ruleOf p) Applies
+      applies e q = settled-applies (block-rig (a .good .well)) (a .good .well .well) in-range small x (t .taken e) q
 
       pub waits :
-          ok ≡ true → ReachReply (ruleOf p) (Done 0) → (Settled (jointsOf b) (joints p) E T → ⊥) → Judged (rigOf b) (taken b) (ruleOf p) Waits
+          ok ≡ true → ReachReply (ruleOf p) (Done 0) → (Settled (jointsOf b) (joints p) (blockForm b) T → ⊥)
+          → Judged (rigOf b) (taken b) (ruleOf p) Waits
       waits e reach d =
           let g = block-rig (a .good .well) in
           let w = a .good .well .well in
           let settles = applies-settled g w in-range small x (t .taken e) (all-reached reach refl) in
-          (λ y. d (start-same (settles y)), taken-not-out g w in-range small x (t .taken e))
+          (λ y. d (settles y), taken-not-out g w in-range small x (t .taken e))
+
+-- The start's nodes with the block's own rows are, below the rig's joint count, the form of the block.
+module _
+    {v k : ℕ} (b : List ℕ) (start : Solved) (was had : List ℕ) (x : Extends v k (blockForm b) (formOf start was)) (e : had ≡ rowsOf b) where
+  had-link : (j l : ℕ) → formOf start had .link j l ≡ blockForm b .link j l
+  had-link j l = ap (λ (r : List ℕ). getD r (j * 16 + l) 0) e
+
+  pub from-start : {T : Form} → Settled v k (formOf start had) T → Settled v k (blockForm b) T
+  from-start q =
+      record {
+        class = λ j h. q .class j h ∙ x .class-old j h;
+        kind = λ j h. q .kind j h ∙ x .kind-old j h;
+        link = λ j l h i. q .link j l h i ∙ had-link j l;
+        inside = q .inside;
+      }
+
+  pub to-start : {T : Form} → Settled v k (blockForm b) T → Settled v k (formOf start had) T
+  to-start q =
+      record {
+        class = λ j h. q .class j h ∙ sym (x .class-old j h);
+        kind = λ j h. q .kind j h ∙ sym (x .kind-old j h);
+        link = λ j l h i. q .link j l h i ∙ sym (had-link j l);
+        inside = q .inside;
+      }

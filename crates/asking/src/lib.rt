@@ -16,7 +16,7 @@ ghost use Rattle.packets.specs.Facts.{ruleOf};
 ghost use Rattle.packets.specs.Decoding.{ruleFact};
 ghost use Rattle.screening.specs.Screening.{packetReply, ruleWanted};
 ghost use Rattle.reach.specs.Reached.{ReachReply};
-ghost use Rattle.solver.specs.Unpacked.{formOf, nodeFact, Ready, Took};
+ghost use Rattle.solver.specs.Unpacked.{classAt, formOf, rowsSize, Proper, nodeFact, Ready, Took};
 ghost use Rattle.joints.specs.Layout.{taken};
 ghost use Rattle.blocks.specs.Layout.{rigOf};
 ghost use Rattle.asking.specs.Ask.{askRefusal, Ask};
@@ -25,7 +25,6 @@ use meaning::RuleJoint;
 use meaning::Tie;
 use meaning::Verdict;
 use replies::Reply;
-use solver::Next;
 use solver::NodeFact;
 use solver::Solved;
 
@@ -58,59 +57,64 @@ fn rule_node_fact(v: u8, fact: RuleFact) -> NodeFact
 }
 
 // The ties taken, one after the other.
-fn with_ties(start: Solved, table: &[u8], n: usize, v: u8, packet: &[u8]) -> Next
-    requires { ⌜ Ready n (v + joints (now packet)) (now table) (formOf start) ⌝ }
+fn with_ties(start: Solved, rows: &mut [u8], table: &[u8], n: usize, v: u8, packet: &[u8]) -> Solved
+    requires { ⌜ (start .ok ≡ true) × (length (now rows) ≡ rowsSize) × Ready n (v + joints (now packet)) (now table) (formOf start (now rows)) ⌝ }
     requires { ⌜ packetReply ruleWanted n v (now packet) ≡ Done 0 ⌝ }
-    ensures { λ r. ⌜ Took n (meetAt n (now (table .entry))) (v + joints (now (packet .entry)))
-        (formOf start) (map (tieFact v) (ruleOf (now (packet .entry)) .ties)) (r .ok) (formOf (r .form)) ⌝ }
+    ensures { λ r. ⌜ Took n (meetAt n (now (table .entry))) (v + joints (now (packet .entry))) (formOf start (now (rows .entry)))
+        (map (tieFact v) (ruleOf (now (packet .entry)) .ties)) (r .ok) (formOf r (now (rows .exit))) ⌝ }
 {
     let nodes = v as usize + packet[5] as usize;
     let count = packet[4] as usize;
     let mut form = start;
     for i in 0..count {
         let tie = packets::tie(packet, 6 + 2 * i);
-        let next = form.with_fact(table, n, nodes, tie_fact(v, tie));
-        if !next.ok {
-            return next;
+        form = form.with_fact(rows, table, n, nodes, tie_fact(v, tie));
+        if !form.ok {
+            return form;
         }
-        form = next.form;
     }
-    Next { ok: true, form }
+    form
 }
 
 // The rule's facts taken, one after the other.
-fn with_rule_facts(start: Solved, table: &[u8], n: usize, v: u8, packet: &[u8]) -> Next
-    requires { ⌜ Ready n (v + joints (now packet)) (now table) (formOf start) ⌝ }
+fn with_rule_facts(
+    start: Solved,
+    rows: &mut [u8],
+    table: &[u8],
+    n: usize,
+    v: u8,
+    packet: &[u8],
+) -> Solved
+    requires { ⌜ (start .ok ≡ true) × (length (now rows) ≡ rowsSize) × Ready n (v + joints (now packet)) (now table) (formOf start (now rows)) ⌝ }
     requires { ⌜ packetReply ruleWanted n v (now packet) ≡ Done 0 ⌝ }
-    ensures { λ r. ⌜ Took n (meetAt n (now (table .entry))) (v + joints (now (packet .entry)))
-        (formOf start) (map (rename (ruleNode v)) (ruleOf (now (packet .entry)) .facts)) (r .ok) (formOf (r .form)) ⌝ }
+    ensures { λ r. ⌜ Took n (meetAt n (now (table .entry))) (v + joints (now (packet .entry))) (formOf start (now (rows .entry)))
+        (map (rename (ruleNode v)) (ruleOf (now (packet .entry)) .facts)) (r .ok) (formOf r (now (rows .exit))) ⌝ }
 {
     let nodes = v as usize + packet[5] as usize;
     let count = packets::fact_count(packet);
     let mut form = start;
     for i in 0..count {
         let fact = packets::rule_fact(packet, packets::fact_at(packet, i));
-        let next = form.with_fact(table, n, nodes, rule_node_fact(v, fact));
-        if !next.ok {
-            return next;
+        form = form.with_fact(rows, table, n, nodes, rule_node_fact(v, fact));
+        if !form.ok {
+            return form;
         }
-        form = next.form;
     }
-    Next { ok: true, form }
+    form
 }
 
 // The ties taken, then the facts.
-fn with_rule(start: Solved, table: &[u8], n: usize, v: u8, packet: &[u8]) -> Next
-    requires { ⌜ Ready n (v + joints (now packet)) (now table) (formOf start) ⌝ }
+fn with_rule(start: Solved, rows: &mut [u8], table: &[u8], n: usize, v: u8, packet: &[u8]) -> Solved
+    requires { ⌜ (start .ok ≡ true) × (length (now rows) ≡ rowsSize) × Ready n (v + joints (now packet)) (now table) (formOf start (now rows)) ⌝ }
     requires { ⌜ packetReply ruleWanted n v (now packet) ≡ Done 0 ⌝ }
-    ensures { λ r. ⌜ Took n (meetAt n (now (table .entry))) (v + joints (now (packet .entry)))
-        (formOf start) (ruleNodeFacts v (ruleOf (now (packet .entry)))) (r .ok) (formOf (r .form)) ⌝ }
+    ensures { λ r. ⌜ Took n (meetAt n (now (table .entry))) (v + joints (now (packet .entry))) (formOf start (now (rows .entry)))
+        (ruleNodeFacts v (ruleOf (now (packet .entry)))) (r .ok) (formOf r (now (rows .exit))) ⌝ }
 {
-    let tied = with_ties(start, table, n, v, packet);
+    let tied = with_ties(start, rows, table, n, v, packet);
     if !tied.ok {
         return tied;
     }
-    with_rule_facts(tied.form, table, n, v, packet)
+    with_rule_facts(tied, rows, table, n, v, packet)
 }
 
 // Whether the first count bytes are the same.
@@ -122,35 +126,29 @@ fn same_front(a: &[u8], b: &[u8], count: usize) -> bool
     runs::same(&a[..count], &b[..count])
 }
 
-// Whether the end says nothing new of the rig's v joints.
-fn same_rig(start: Solved, end: Solved, v: usize) -> bool
-    requires { ⌜ v ≤ 96 ⌝ }
-    ensures { λ r. ⌜ (r ≡ true → Settled v 0 (formOf start) (formOf end))
-        × (r ≡ false → Settled v 0 (formOf start) (formOf end) → ⊥) ⌝ }
+// Whether the end, with its rows, says nothing new of the v joints that the start has, with the rows that it had.
+fn same_rig(start: Solved, had: &[u8], end: Solved, rows: &[u8], v: usize) -> bool
+    requires { ⌜ (v ≤ 64) × (1024 ≤ length (now had)) × (length (now rows) ≡ rowsSize) × Proper v start × Proper v end ⌝ }
+    ensures { λ r. ⌜ (r ≡ true → Settled v 0 (formOf start (now (had .entry))) (formOf end (now (rows .entry))))
+        × (r ≡ false → Settled v 0 (formOf start (now (had .entry))) (formOf end (now (rows .entry))) → ⊥) ⌝ }
 {
-    let was = start.class;
-    let class = end.class;
-    if !same_front(&class, &was, v) {
+    let was = start.node;
+    let node = end.node;
+    if !same_front(&node, &was, v) {
         return false;
     }
-    let had = start.kind;
-    let kind = end.kind;
-    if !same_front(&kind, &had, v) {
-        return false;
-    }
-    let led = start.link;
-    let link = end.link;
-    same_front(&link, &led, 16 * v)
+    same_front(rows, had, 16 * v)
 }
 
 // Whether each of the k rule joints is one with a rig joint: its class is numbered by one of the first v nodes.
 fn all_inside(form: Solved, v: usize, k: usize) -> bool
     requires { ⌜ v + k ≤ 96 ⌝ }
-    ensures { λ r. ⌜ (r ≡ true → (i : ℕ) → i < k → (formOf form) .class (v + i) < v)
-        × (r ≡ false → ((i : ℕ) → i < k → (formOf form) .class (v + i) < v) → ⊥) ⌝ }
+    ensures { λ r. ⌜ (r ≡ true → (i : ℕ) → i < k → classAt (form .node) (v + i) < v)
+        × (r ≡ false → ((i : ℕ) → i < k → classAt (form .node) (v + i) < v) → ⊥) ⌝ }
 {
+    let node = form.node;
     for i in 0..k {
-        if v <= form.class[v + i] as usize {
+        if v <= solver::class_at(&node, (v + i) as u8) as usize {
             return false;
         }
     }
@@ -158,12 +156,13 @@ fn all_inside(form: Solved, v: usize, k: usize) -> bool
 }
 
 // Whether nothing new is said of the rig, and each rule joint is one with a rig joint.
-fn settled(start: Solved, end: Solved, v: usize, k: usize) -> bool
+fn settled(start: Solved, had: &[u8], end: Solved, rows: &[u8], v: usize, k: usize) -> bool
+    requires { ⌜ (v ≤ 64) × (1024 ≤ length (now had)) × (length (now rows) ≡ rowsSize) × Proper v start × Proper v end ⌝ }
     requires { ⌜ v + k ≤ 96 ⌝ }
-    ensures { λ r. ⌜ (r ≡ true → Settled v k (formOf start) (formOf end))
-        × (r ≡ false → Settled v k (formOf start) (formOf end) → ⊥) ⌝ }
+    ensures { λ r. ⌜ (r ≡ true → Settled v k (formOf start (now (had .entry))) (formOf end (now (rows .entry))))
+        × (r ≡ false → Settled v k (formOf start (now (had .entry))) (formOf end (now (rows .entry))) → ⊥) ⌝ }
 {
-    if !same_rig(start, end, v) {
+    if !same_rig(start, had, end, rows, v) {
         return false;
     }
     all_inside(end, v, k)
@@ -178,12 +177,13 @@ fn verdict(block: &[u8], packet: &[u8]) -> Verdict
     let n = joints::kind_count(block) as usize;
     let v = joints::joint_count(block);
     let k = packet[5] as usize;
-    let start = unpacking::unpack(block, v as usize, k);
-    let end = with_rule(start, blocks::kind_table(block), n, v, packet);
+    let mut rows = [0u8; 1536];
+    let start = unpacking::unpack(&mut rows, block, v as usize, k);
+    let end = with_rule(start, &mut rows, blocks::kind_table(block), n, v, packet);
     if !end.ok {
         return Verdict::RuledOut;
     }
-    if settled(start, end.form, v as usize, k) {
+    if settled(start, joints::rows(block), end, &rows, v as usize, k) {
         return Verdict::Applies;
     }
     Verdict::Waits

@@ -14,7 +14,7 @@ pub fn table_fits(room: &[u8], n: usize) -> bool
         return false;
     }
     let end = n * n;
-    let reply = tables::check(&room[..end], n);
+    let reply = house::check(&room[..end], n);
     if replies::is_refusal(reply) {
         return false;
     }

@@ -99,7 +99,7 @@ module _ (n v : ℕ) (S : Form) where
           }
 
   -- in a well-formed form every joint fits
-  well-fits : Well n v S → (j : ℕ) → jointFits n v S j ≡ true
+  pub well-fits : Well n v S → (j : ℕ) → jointFits n v S j ≡ true
   well-fits w j =
       both (classFits v S j) (kindFits n v S j && all (linkFits v S j) 0 16)
       (chosen (ltb j v) _ (eqb (S .class j) 0)

@@ -1,17 +1,18 @@
 -- Every entry of the house table is the greatest kind under both by the parent list, by one test over its 1,089 entries; so the table is
 -- lawful, it passes the check, and a kind is under another by the table exactly when it is by the parents.
 -- Assumes nothing.
-use mathlib.Core.Path.{_≡_, subst, sym}
+use mathlib.Core.Path.{_≡_, subst, sym, ap, ap₂, _∙_}
 use mathlib.Core.Logic.{_↔_}
 use mathlib.Core.Bool.{Bool, true, false, _&&_}
 use mathlib.Core.List.{List, [], _∷_, map}
 use Prim.Native.Nat.{ℕ, _+_, _*_, _/_, _%_, _<_}
 use native.Mathlib.Omega.{arith}
 use lib.Dec.{T, eqb, eqb→eq, ltb, ltb→lt}
-use lib.ListN.{getD}
+use lib.ListN.{getD, length}
 use lib.Arith.{digits-div, digits-mod, digits-lt}
 use Rattle.kinds.specs.Kinds.{Under, meetAt}
 use Rattle.kinds.specs.Laws.{Lawful, Greatest}
+use Rattle.kinds.specs.Sizes.{Sized}
 use Rattle.kinds.proofs.Order.{greatest-lawful, greatest-one}
 use Rattle.replies.specs.declared.Reply.the-variants.{Done}
 use Rattle.tables.specs.Check.{tableReply}
@@ -64,6 +65,14 @@ house-lawful = greatest-lawful (omega arith) house-ordered house-rule
 
 pub house-passes : tableReply 33 houseTable ≡ Done 0
 house-passes = lawful-passes 33 houseTable (omega arith) house-lawful
+
+-- a table of 33 kinds has as many bytes as the house table, and passes if it is that one
+module _ {n : ℕ} {table : List ℕ} (e : n ≡ 33) where
+  pub house-size : Sized n table → length table ≡ 1089
+  house-size sized = sized .size ∙ ap (λ (k : ℕ). k * k) e
+
+  pub house-told : table ≡ houseTable → Done 0 ≡ tableReply n table
+  house-told same = sym (ap₂ tableReply e same ∙ house-passes)
 
 pub house-under : (s t : ℕ) → s < 33 → t < 33 → Under (meetAt 33 houseTable) s t ↔ UnderByParents s t
 house-under s t hs ht = (

@@ -1,1 +1,3 @@
+pub mod Gather
+pub mod Seen
 pub mod Embedding

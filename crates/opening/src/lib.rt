@@ -33,7 +33,7 @@ fn open_reply(n: u64, v: u64, table: &[u8], block: &[u8]) -> Reply
     if !sizes_fit(n, v, table, block) {
         return Reply::Refused(Cause::BadSize, 0);
     }
-    tables::check(table, n as usize)
+    house::check(table, n as usize)
 }
 
 // Opens a session of V joints with the kinds of the table: on success the whole block is written, otherwise no byte.

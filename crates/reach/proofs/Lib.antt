@@ -1,3 +1,4 @@
 pub mod RulePacket
 pub mod Reached
+pub mod Bits
 pub mod Marking

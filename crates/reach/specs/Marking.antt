@@ -1,17 +1,15 @@
--- Marks on a rule's joints, by which the reached ones are found. No call cites these: they stand between reply 10 and its code.
+-- Marks on a rule's joints, by which the reached ones are found, and which joint leads to which. A set of joints is a number, whose bit j is 1
+-- where j is in it. No call cites these: they stand between reply 10 and its code.
 -- Assumes nothing.
 use mathlib.Core.Path.{_≡_}
 use mathlib.Core.Logic.{_≢_}
-use mathlib.Core.Bool.{cond}
 use mathlib.Core.List.{List}
-use Prim.Native.Nat.{ℕ, zero, suc, _+_, _<_}
-use lib.Dec.{eqb}
-use lib.ListN.{getD}
+use Prim.Native.Nat.{ℕ, _/_, _%_, _^_, _≤_, _<_}
+use lib.ListN.{length, getD}
 use Rattle.meaning.specs.declared.RuleJoint.{RuleJoint}
 use Rattle.meaning.specs.Picture.{Fact}
 use Rattle.meaning.specs.Picture.Fact.{leads}
 use Rattle.meaning.specs.Rule.{Reached, ruleJoint}
-use Rattle.reach.specs.declared.Marks.{Marks}
 use Rattle.replies.specs.declared.Reply.the-variants.{Done}
 use Rattle.packets.specs.Packet.{byte, ties, tieAt, factAt, factCount}
 use Rattle.packets.specs.Facts.{factOf, ruleOf}
@@ -27,48 +25,54 @@ pub record RulePacket (p : List ℕ) : Type 0 where
 abbrev pub nthFact : List ℕ → ℕ → Fact RuleJoint
 nthFact p i = factOf ruleJoint p (factAt p i)
 
-abbrev pub Marked : Marks → ℕ → Type 0
-Marked m j = getD (m .0) j 0 ≡ 1
+abbrev pub bit : ℕ → ℕ → ℕ
+bit m j = m / 2 ^ j % 2
+
+abbrev pub Marked : ℕ → ℕ → Type 0
+Marked m j = bit m j ≡ 1
 
 -- r has the mark of j besides those of m
-pub record WithMark (m : Marks) (j : ℕ) (r : Marks) : Type 0 where
+pub record WithMark (m j r : ℕ) : Type 0 where
   pub here : Marked r j
-  pub others : (k : ℕ) → k ≢ j → getD (r .0) k 0 ≡ getD (m .0) k 0
+  pub others : (k : ℕ) → k ≢ j → bit r k ≡ bit m k
+  pub grows : m ≤ r
+  pub bits : r < 2 ^ 32
 
--- r has the mark of c besides those of m where m has that of a, and else it is m
-pub data LinkMarked (m : Marks) (a c : RuleJoint) : Marks → Type 0 where
-  marks-c : {r : Marks} → Marked m (a .0) → WithMark m (c .0) r → LinkMarked m a c r
-  leaves : (Marked m (a .0) → ⊥) → LinkMarked m a c m
+-- row a of the table has the mark of c: a leads to c
+abbrev pub Lead : List ℕ → ℕ → ℕ → Type 0
+Lead to a c = Marked (getD to a 0) c
+
+-- in t a leads to c, besides what leads in s
+pub record WithLead (a c : ℕ) (s t : List ℕ) : Type 0 where
+  pub size : length t ≡ length s
+  pub here : Lead t a c
+  pub keeps : (i j : ℕ) → Lead s i j → Lead t i j
+  pub others : (i j : ℕ) → (i ≡ a → j ≡ c → ⊥) → Lead t i j → Lead s i j
+
+-- where the fact is "a.l is c", a leads to c
+abbrev pub Noted : Fact RuleJoint → List ℕ → Type 0
+Noted f to = (a c : RuleJoint) (l : ℕ) → f ≡ leads a l c → Lead to (a .0) (c .0)
+
+-- the first count facts are noted, and where a leads to c, c is reached if a is
+pub record Leads (p : List ℕ) (count : ℕ) (to : List ℕ) : Type 0 where
+  pub size : length to ≡ 32
+  pub noted : (i : ℕ) → i < count → Noted (nthFact p i) to
+  pub sound : (a c : ℕ) → Lead to a c → Reached (ruleOf p) (ruleJoint a) → Reached (ruleOf p) (ruleJoint c)
 
 -- only reached joints are marked
-pub record Sound (p : List ℕ) (m : Marks) : Type 0 where
+pub record Sound (p : List ℕ) (m : ℕ) : Type 0 where
   pub reached : (j : ℕ) → Marked m j → Reached (ruleOf p) (ruleJoint j)
 
 -- every tied joint is marked
-abbrev pub TiesMarked : List ℕ → Marks → Type 0
+abbrev pub TiesMarked : List ℕ → ℕ → Type 0
 TiesMarked p m = (i : ℕ) → i < ties p → Marked m (byte p (tieAt i))
 
--- where a of a fact "a.l is c" is marked by m, c is marked by r
-abbrev pub Follows : Fact RuleJoint → Marks → Marks → Type 0
-Follows f m r = (a c : RuleJoint) (l : ℕ) → f ≡ leads a l c → Marked m (a .0) → Marked r (c .0)
-
--- r keeps the marks of m, and is sound where m is
-pub record Grown (p : List ℕ) (m r : Marks) : Type 0 where
-  pub keeps : (j : ℕ) → Marked m j → Marked r j
-  pub sound : Sound p m → Sound p r
-
--- the first count facts have been followed
-pub record Followed (p : List ℕ) (count : ℕ) (m r : Marks) : Type 0 where
-  pub grown : Grown p m r
-  pub follows : (i : ℕ) → i < count → Follows (nthFact p i) m r
+-- where a of a fact "a.l is c" is marked, c is
+abbrev pub Follows : Fact RuleJoint → ℕ → Type 0
+Follows f m = (a c : RuleJoint) (l : ℕ) → f ≡ leads a l c → Marked m (a .0) → Marked m (c .0)
 
 -- only reached joints are marked, and neither a tie nor a fact marks another
-pub record Closed (p : List ℕ) (m : Marks) : Type 0 where
+pub record Closed (p : List ℕ) (m : ℕ) : Type 0 where
   pub sound : Sound p m
   pub ties : TiesMarked p m
-  pub follows : (i : ℕ) → i < factCount p → Follows (nthFact p i) m m
-
--- how many of the joints below k are marked
-unfoldable pub marked : Marks → ℕ → ℕ
-marked m zero = 0
-marked m (suc k) = marked m k + cond (eqb (getD (m .0) k 0) 1) 1 0
+  pub follows : (i : ℕ) → i < factCount p → Follows (nthFact p i) m

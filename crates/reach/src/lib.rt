@@ -1,46 +1,46 @@
-// Reply 10: which of a rule's joints are reached, and the smallest that is not.
+// Reply 10: which of a rule's joints are reached, and the smallest that is not. A set of joints is a number of 32 bits, and bit j is joint j's.
 ghost use mathlib.Core.Path.{_≡_};
-ghost use mathlib.Core.Bool.{cond};
-ghost use Prim.Native.Nat.{_<_, _≤_};
+ghost use Prim.Native.Nat.{_+_, _<_, _≤_};
 ghost use lib.Dec.{eqb};
-ghost use lib.ListN.{getD};
+ghost use lib.ListN.{length, replicate};
 ghost use Rattle.packets.specs.Packet.{factCount};
 ghost use Rattle.packets.specs.Facts.{ruleOf};
 ghost use Rattle.reach.specs.Reached.{SmallestNot, ReachReply};
-ghost use Rattle.reach.specs.Marking.{RulePacket, nthFact, Marked, WithMark, LinkMarked, Sound, TiesMarked, Grown, Follows, Followed, Closed, marked};
+ghost use Rattle.reach.specs.Marking.{RulePacket, bit, Marked, WithMark, WithLead, Leads, Sound, TiesMarked, Closed};
 use meaning::RuleFact;
-use meaning::RuleJoint;
 use replies::Cause;
 use replies::Reply;
 
-// Which of a rule's joints are known to be reached: 1 for a joint that is, else 0. Bytes, for an array of bools is copied bool by bool.
-pub struct Marks(pub [u8; 32]);
-
-fn is_marked(marks: Marks, j: usize) -> bool
+fn is_marked(marks: u32, j: usize) -> bool
     requires { ⌜ j < 32 ⌝ }
-    ensures { λ b. ⌜ b ≡ eqb (getD (marks .0) j 0) 1 ⌝ }
+    ensures { λ b. ⌜ b ≡ eqb (bit marks j) 1 ⌝ }
 {
-    let on = marks.0;
-    on[j] == 1
+    marks >> j & 1 == 1
 }
 
 // The joint j marked, too.
-fn mark(marks: Marks, j: usize) -> Marks
+fn mark(marks: u32, j: usize) -> u32
     requires { ⌜ j < 32 ⌝ }
     ensures { λ r. ⌜ WithMark marks j r ⌝ }
 {
-    let mut on = marks.0;
-    on[j] = 1;
-    Marks(on)
+    marks | 1u32 << j
+}
+
+// A joint that is marked, the smallest one.
+fn first_marked(marks: u32) -> usize
+    requires { ⌜ 0 < marks ⌝ }
+    ensures { λ j. ⌜ (j < 32) × Marked marks j ⌝ }
+{
+    u32::trailing_zeros(marks) as usize
 }
 
 // A tied joint is reached.
-fn mark_ties(packet: &[u8]) -> Marks
+fn mark_ties(packet: &[u8]) -> u32
     requires { ⌜ RulePacket (now packet) ⌝ }
     ensures { λ r. ⌜ Sound (now (packet .entry)) r × TiesMarked (now (packet .entry)) r ⌝ }
 {
     let count = packets::byte_at(packet, 4);
-    let mut marks = Marks([0u8; 32]);
+    let mut marks = 0u32;
     for i in 0..count {
         let j = packets::byte_at(packet, 6 + 2 * i);
         marks = mark(marks, j);
@@ -48,77 +48,62 @@ fn mark_ties(packet: &[u8]) -> Marks
     marks
 }
 
-// c is marked where a is.
-fn mark_link(marks: Marks, a: RuleJoint, c: RuleJoint) -> Marks
-    requires { ⌜ (a .0 < 32) × (c .0 < 32) ⌝ }
-    ensures { λ r. ⌜ LinkMarked marks a c r ⌝ }
+// Row a of `to` is the set of the joints that a leads to; here c, too.
+fn note(to: &mut [u32], a: usize, c: usize)
+    requires { ⌜ (length (now to) ≡ 32) × (a < 32) × (c < 32) ⌝ }
+    ensures { λ _. ⌜ WithLead a c (now (to .entry)) (now (to .exit)) ⌝ }
 {
-    if is_marked(marks, a.0 as usize) {
-        return mark(marks, c.0 as usize);
+    to[a] = mark(to[a], c);
+}
+
+// Where the i-th fact is "a.l is c", a leads to c. Nothing leads from c back to a.
+fn note_fact(packet: &[u8], i: usize, to: &mut [u32])
+    requires { ⌜ RulePacket (now packet) ⌝ }
+    requires { ⌜ i < factCount (now packet) ⌝ }
+    requires { ⌜ Leads (now packet) i (now to) ⌝ }
+    ensures { λ _. ⌜ Leads (now (packet .entry)) (i + 1) (now (to .exit)) ⌝ }
+{
+    let fact = packets::rule_fact(packet, packets::fact_at(packet, i));
+    match fact {
+        RuleFact::Kind(_, _) => {}
+        RuleFact::Same(_, _) => {}
+        RuleFact::Link(a, _, c) => note(to, a.0 as usize, c.0 as usize),
+    }
+}
+
+// Every fact once.
+fn note_facts(packet: &[u8], to: &mut [u32])
+    requires { ⌜ RulePacket (now packet) ⌝ }
+    requires { ⌜ now to ≡ replicate 32 0 ⌝ }
+    ensures { λ _. ⌜ Leads (now (packet .entry)) (factCount (now (packet .entry))) (now (to .exit)) ⌝ }
+{
+    let count = packets::fact_count(packet);
+    for i in 0..count {
+        note_fact(packet, i, to);
+    }
+}
+
+// The reached joints: the tied ones, and those that a reached joint leads to. Each reached joint's row is followed once, whatever the order
+// of the facts.
+fn reached_joints(packet: &[u8]) -> u32
+    requires { ⌜ RulePacket (now packet) ⌝ }
+    ensures { λ r. ⌜ Closed (now (packet .entry)) r ⌝ }
+{
+    let mut to = [0u32; 32];
+    note_facts(packet, &mut to);
+    let tied = mark_ties(packet);
+    let mut marks = tied;
+    let mut followed = 0u32;
+    while followed != marks {
+        let j = first_marked(marks ^ followed);
+        followed = mark(followed, j);
+        marks = marks | to[j];
     }
     marks
 }
 
-// c is reached when the i-th fact is "a.l is c" and a is reached. Nothing is reached from c back to a.
-fn mark_fact(packet: &[u8], i: usize, marks: Marks) -> Marks
-    requires { ⌜ RulePacket (now packet) ⌝ }
-    requires { ⌜ i < factCount (now packet) ⌝ }
-    ensures { λ r. ⌜ Grown (now (packet .entry)) marks r × Follows (nthFact (now (packet .entry)) i) marks r ⌝ }
-{
-    let fact = packets::rule_fact(packet, packets::fact_at(packet, i));
-    match fact {
-        RuleFact::Kind(_, _) => marks,
-        RuleFact::Same(_, _) => marks,
-        RuleFact::Link(a, _, c) => mark_link(marks, a, c),
-    }
-}
-
-// Every fact once, in turn.
-fn mark_facts(packet: &[u8], marks: Marks) -> Marks
-    requires { ⌜ RulePacket (now packet) ⌝ }
-    ensures { λ r. ⌜ Followed (now (packet .entry)) (factCount (now (packet .entry))) marks r ⌝ }
-{
-    let count = packets::fact_count(packet);
-    let mut more = marks;
-    for i in 0..count {
-        more = mark_fact(packet, i, more);
-    }
-    more
-}
-
-fn one_if(b: bool) -> usize
-    ensures { λ r. ⌜ r ≡ cond b 1 0 ⌝ }
-{
-    if b { 1 } else { 0 }
-}
-
-fn count_marks(marks: Marks) -> usize
-    ensures { λ r. ⌜ r ≡ marked marks 32 ⌝ }
-{
-    let mut count = 0;
-    for j in 0..32 {
-        count += one_if(is_marked(marks, j));
-    }
-    count
-}
-
-// The reached joints: the facts are gone through until a pass marks nothing more. Each pass before that marks one more of 32.
-fn reached_joints(packet: &[u8]) -> Marks
-    requires { ⌜ RulePacket (now packet) ⌝ }
-    ensures { λ r. ⌜ Closed (now (packet .entry)) r ⌝ }
-{
-    let mut marks = mark_ties(packet);
-    loop {
-        let more = mark_facts(packet, marks);
-        if count_marks(more) == count_marks(marks) {
-            return marks;
-        }
-        marks = more;
-    }
-}
-
 // The smallest of the joints that is not marked.
-fn first_unmarked(marks: Marks, joints: usize) -> Reply
+fn first_unmarked(marks: u32, joints: usize) -> Reply
     requires { ⌜ joints ≤ 32 ⌝ }
     ensures { λ r. ⌜ SmallestNot (Marked marks) joints r ⌝ }
 {

@@ -45,13 +45,13 @@ pub repeated : (x : ℕ) {m i : ℕ} {xs : List ℕ} → Filling (replicate m x)
 repeated x {m} {i} l h = stored l h (sym (getD-replicate m i x 0 h))
 
 -- the bits of two bytes together are none where both bytes have none; two bytes differ in no bit where they are equal
-or-none : (x y : ℕ) → bitOr x y ≡ 0 → (x ≡ 0) × (y ≡ 0)
+pub or-none : (x y : ℕ) → bitOr x y ≡ 0 → (x ≡ 0) × (y ≡ 0)
 or-none x y e = let s = or-add-and x y in (omega (arith, s, and-le-r x y), omega (arith, s, and-le-l x y))
 
 none-or : (x y : ℕ) → x ≡ 0 → y ≡ 0 → bitOr x y ≡ 0
 none-or x y p q = omega (arith, or-add-and x y)
 
-xor-none : (x y : ℕ) → bitXor x y ≡ 0 → x ≡ y
+pub xor-none : (x y : ℕ) → bitXor x y ≡ 0 → x ≡ y
 xor-none x y e = omega (arith, xor-add-and x y, and-le-l x y, and-le-r x y)
 
 none-xor : (x y : ℕ) → x ≡ y → bitXor x y ≡ 0

@@ -3,7 +3,8 @@
 use mathlib.Core.Path.{_≡_, refl, ap, _∙_}
 use mathlib.Core.Bool.{Bool, true, _&&_}
 use mathlib.Core.List.{List}
-use Prim.Native.Nat.{ℕ, suc}
+use Prim.Native.Nat.{ℕ, zero, suc, _+_, _≤_, _<_}
+use native.Mathlib.Omega.{arith}
 use borrow.Author.Tests.{eq-eqb, lt-ltb}
 use Rattle.replies.specs.declared.Reply.the-variants.{Done}
 use Rattle.replies.specs.Replies.{refuses}
@@ -43,6 +44,15 @@ pub fits-then :
     firstUnfit fits at i (suc count) ≡ Done 0
 unfolding firstUnfit each
 fits-then fits at i count e rest = test-next _ _ _ _ _ e ∙ rest
+
+-- all of count parts fit, from the i-th on
+pub all-fit-from :
+    (fits : ℕ → Bool) (at : ℕ → ℕ) (i count : ℕ) → ((k : ℕ) → i ≤ k → k < i + count → fits (at k) ≡ true) →
+    firstUnfit fits at i count ≡ Done 0
+unfolding firstUnfit each
+all-fit-from fits at i zero h = first-none (Done 0)
+all-fit-from fits at i (suc count) h =
+    fits-then fits at i count (h i (omega arith) (omega arith)) (all-fit-from fits at (suc i) count (λ k a b. h k (omega arith) (omega arith)))
 
 -- a fact whose four bytes stand at a place, and which is in range, fits there
 module _ (n : ℕ) (p : List ℕ) (at : ℕ) where

@@ -1,2 +1,3 @@
 pub mod Screening
 pub mod Whole
+pub mod Words

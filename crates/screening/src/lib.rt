@@ -9,6 +9,8 @@ ghost use Rattle.screening.specs.Whole.{Whole};
 use replies::Cause;
 use replies::Reply;
 
+mod words;
+
 pub struct Range {
     pub from: usize,
     pub to: usize,
@@ -102,8 +104,8 @@ fn first_bad_tie(packet: &[u8], v: usize) -> Reply
     Reply::Done(0)
 }
 
-// The first fact that is none, in a packet that holds all its facts.
-fn first_bad_fact(packet: &[u8], n: usize) -> Reply
+// The first fact that is none, looked for fact by fact, in a packet that holds all its facts.
+fn find_bad_fact(packet: &[u8], n: usize) -> Reply
     requires { ⌜ Whole (now packet) ⌝ }
     ensures { λ r. ⌜ r ≡ firstBadFact n (now (packet .entry)) ⌝ }
 {
@@ -116,6 +118,17 @@ fn first_bad_fact(packet: &[u8], n: usize) -> Reply
         return Reply::Refused(Cause::BadPart, place as u32);
     }
     Reply::Done(0)
+}
+
+// The same. Where all facts fit, a look at all of them at once tells.
+fn first_bad_fact(packet: &[u8], n: usize) -> Reply
+    requires { ⌜ Whole (now packet) ⌝ }
+    ensures { λ r. ⌜ r ≡ firstBadFact n (now (packet .entry)) ⌝ }
+{
+    if words::all_fit(packet, n) {
+        return Reply::Done(0);
+    }
+    find_bad_fact(packet, n)
 }
 
 // Replies 5 to 9: the first thing that is wrong, in the order of their numbers.

@@ -1,13 +1,12 @@
 -- Facts taken one after another in a loop: at each turn the form at hand is what the facts so far make of the first form.
 -- Assumes nothing.
-use mathlib.Core.Path.{_≡_, refl, sym, _∙_, ap}
+use mathlib.Core.Path.{_≡_, sym, _∙_, ap}
 use mathlib.Core.Bool.{Bool, true, false, true≢false, false≢true}
 use mathlib.Core.List.{List, [], _∷_, _++_}
-use Prim.Native.Nat.{ℕ, _+_, _<_, _≤_}
+use Prim.Native.Nat.{ℕ, _+_, _<_}
 use native.Mathlib.Omega.{arith}
 use native.Mathlib.Numerals.{add-one}
-use lib.ListN.{length, take, drop, take-append-drop}
-use lib.Seq.{take-all}
+use lib.ListN.{take, drop, take-append-drop}
 use Rattle.kinds.specs.Kinds.{meetAt}
 use Rattle.runs.specs.Runs.{each}
 use Rattle.runs.proofs.Each.{each-more, each-length, each-take}
@@ -39,11 +38,11 @@ module _ {n v : ℕ} {table : List ℕ} {first : Form} {f : ℕ → Fact ℕ} {i
         let next : Taken n (meetAt n table) v S (f i ∷ []) T = rw e at (t .taken q) in
         record { ready = ready-after (l .ready) next; taken = rw (← one-more f i) (taken-then (l .taken) next) }
 
-    pub fold-stops : {m : ℕ} → i < m → ok ≡ false → Folded n (meetAt n table) v first (each f 0 m) i false S
+    pub fold-stops : {m : ℕ} {U : Form} → i < m → ok ≡ false → Folded n (meetAt n table) v first (each f 0 m) i false U
     fold-stops {m} h q =
         let next : Refuted n (meetAt n table) v S (f i ∷ []) = rw e at (t .refuted q) in
         record {
-          taken = rw (each-take f 0 i m (omega arith)) (l .taken);
+          before = (S, rw (each-take f 0 i m (omega arith)) (l .taken));
           all = λ z. absurd (false≢true z);
           stopped = λ _. (
             omega (arith, each-length f 0 m),
@@ -54,9 +53,10 @@ module _ {n v : ℕ} {table : List ℕ} {first : Form} {f : ℕ → Fact ℕ} {i
   -- no fact is left
   pub fold-ends : {m : ℕ} → i ≡ m → Folded n (meetAt n table) v first (each f 0 m) m true S
   fold-ends {m} e =
+      let all : Taken n (meetAt n table) v first (each f 0 m) S = rw e at (l .taken) in
       record {
-        taken = rw (each-take f 0 m m (omega arith)) (rw e at (l .taken));
-        all = λ _. sym (each-length f 0 m);
+        before = (S, rw (each-take f 0 m m (omega arith)) all);
+        all = λ _. (sym (each-length f 0 m), all);
         stopped = λ z. absurd (true≢false z);
       }
 
@@ -65,6 +65,6 @@ pub folded-took :
     {n v : ℕ} {meet : ℕ → ℕ → ℕ} {S T : Form} {at : ℕ} {ok : Bool} (fs : List (Fact ℕ)) → Folded n meet v S fs at ok T → Took n meet v S fs ok T
 folded-took {n} {v} {meet} {S} {T} {at} {ok} fs f =
     record {
-      taken = λ e. rw (take-all at fs (omega (arith, f .all e))) at (f .taken);
+      taken = λ e. f .all e .1;
       refuted = λ e. rw (take-append-drop (at + 1) fs) at (refuted-more n meet v S (take (at + 1) fs) (drop (at + 1) fs) (f .stopped e .1));
     }

@@ -1,7 +1,10 @@
 pub mod Fill
+pub mod Nodes
 pub mod Join
 pub mod Sets
 pub mod Run
+pub mod Counting
 pub mod Takes
 pub mod Stores
+pub mod OneFact
 pub mod Folding

@@ -15,8 +15,8 @@ use Rattle.meaning.specs.Picture.{Picture, Fact}
 use Rattle.meaning.specs.Picture.Fact.{same}
 use Rattle.meaning.specs.Form.{Form, unknown, classes}
 use Rattle.meaning.specs.Solving.{Smallest, Well, Models, Taken, Refuted}
-use Rattle.solver.specs.Unpacked.{Ready}
-use Rattle.solver.specs.Steps.{bothKnown, smallestCount, InOrder, Pairs, Running, Pushed, JoinReady, JoinDone}
+use Rattle.solver.specs.Unpacked.{nodesForm, rowsSize, Ready}
+use Rattle.solver.specs.Steps.{bothKnown, InOrder, Pairs, Running, Pushed, JoinReady, JoinDone}
 use Rattle.solver.proofs.Join.{
   Joining,
   EndsAgree,
@@ -37,14 +37,14 @@ pub classes-none : (S : Form) → classes S 0 ≡ 0
 unfolding classes
 classes-none S = refl
 
-pub classes-more : (S : Form) (k : ℕ) → classes S (k + 1) ≡ classes S k + smallestCount (S .class k) k
+-- one node more: it is counted where it is its class's smallest
+pub classes-one : (S : Form) (k : ℕ) → S .class k ≡ k → classes S (k + 1) ≡ classes S k + 1
 unfolding classes
-classes-more S k =
-    let e : k + 1 ≡ suc k = omega arith in
-    rw e
-    (by-cases (ℕ-discrete (S .class k) k)
-    (λ q. rw (eq-eqb _ _ q) (omega arith))
-    (λ d. rw (ne-eqb _ _ d) (omega arith)))
+classes-one S k q = let e : k + 1 ≡ suc k = omega arith in rw (e, eq-eqb _ _ q) (omega arith)
+
+pub classes-other : (S : Form) (k : ℕ) → S .class k ≢ k → classes S (k + 1) ≡ classes S k + 0
+unfolding classes
+classes-other S k d = let e : k + 1 ≡ suc k = omega arith in rw (e, ne-eqb _ _ d) (omega arith)
 
 pub classes-le : (S : Form) (k : ℕ) → classes S k ≤ k
 unfolding classes
@@ -269,14 +269,14 @@ module _
 
   -- its two classes, the smaller first
   module _ {low high : ℕ} (o : InOrder (S .class x) (S .class y) low high) where
-    smallest-low : Smallest v S low
+    pub smallest-low : Smallest v S low
     smallest-low =
         ⊎-elim
         (λ z. rw (z .0) (class-of (r .well) x (last-inside .0)))
         (λ z. rw (z .0) (class-of (r .well) y (last-inside .1)))
         (o .which)
 
-    smallest-high : Smallest v S high
+    pub smallest-high : Smallest v S high
     smallest-high =
         ⊎-elim
         (λ z. rw (z .1) (class-of (r .well) y (last-inside .1)))
@@ -295,19 +295,9 @@ module _
         ⊎-elim (λ z. rw (← z .0, ← z .1) e) (λ z. rw (← z .0, ← z .1) (sym e)) (o .which) in
         m .one x (last-inside .0) ∙ f ∙ sym (m .one y (last-inside .1))
 
-    pub run-ready : size + 15 ≤ length left → size + 15 ≤ length right → JoinReady n table S low high left right size
-    run-ready room-left room-right =
-        record {
-          kinds = d .kinds;
-          table-size = d .size;
-          less = o .less;
-          inside = omega (arith, smallest-high .0, d .nodes);
-          kind-low = r .well .kind-in low;
-          kind-high = r .well .kind-in high;
-          some = some;
-          room-left = room-left;
-          room-right = room-right;
-        }
+    -- the form at hand is as ready as the first
+    pub run-form : Ready n v table S
+    run-form = record { two = d .two; kinds = d .kinds; size = d .size; lawful = d .lawful; nodes = d .nodes; well = r .well }
 
     pub run-clash : meet (S .kind low) (S .kind high) ≡ 0 → Refuted n meet v S₀ fs
     run-clash none P σ placed m f =
@@ -377,3 +367,23 @@ module _
                   ),
             );
           }
+
+-- what joining asks for, of the nodes and rows at hand
+pub run-ready :
+    {n v : ℕ} {table : List ℕ} {S₀ : Form} (d : Ready n v table S₀) {fs : List (Fact ℕ)} (node rows : List ℕ) {left right : List ℕ} {size : ℕ}
+    (r : Running n (meetAt n table) v S₀ fs (nodesForm node rows) left right size) (some : 0 < size) {low high : ℕ}
+    → InOrder (nodesForm node rows .class (getD left (size - 1) 0)) (nodesForm node rows .class (getD right (size - 1) 0)) low high
+    → length node ≡ 96 → length rows ≡ rowsSize → size + 15 ≤ length left → size + 15 ≤ length right
+    → JoinReady n v table node rows low high left right size
+run-ready d node rows r some o node-size rows-size room-left room-right =
+    record {
+      node-size = node-size;
+      rows-size = rows-size;
+      ready = run-form d r some o;
+      less = o .less;
+      low-smallest = smallest-low d r some o;
+      high-smallest = smallest-high d r some o;
+      some = some;
+      room-left = room-left;
+      room-right = room-right;
+    }

@@ -10,7 +10,8 @@ use lib.Dec.{eqb}
 use lib.ListN.{length, getD}
 use Rattle.meaning.specs.Picture.{Picture, Placing, Fact, All}
 use Rattle.meaning.specs.Form.{Form, unknown, classes}
-use Rattle.meaning.specs.Solving.{Well, Models}
+use Rattle.meaning.specs.Solving.{Smallest, Well, Models}
+use Rattle.solver.specs.Unpacked.{nodesForm, rowsSize, Ready}
 
 -- number b becomes a, any other stays
 abbrev pub renumber : ℕ → ℕ → ℕ → ℕ
@@ -23,10 +24,6 @@ knownOf x y = cond (eqb x unknown) y x
 -- 1 where both links are known, else 0
 abbrev pub bothKnown : ℕ → ℕ → ℕ
 bothKnown x y = cond (eqb x unknown) 0 (cond (eqb y unknown) 0 1)
-
--- 1 where the class number x is j itself, else 0
-abbrev pub smallestCount : ℕ → ℕ → ℕ
-smallestCount x j = cond (eqb x j) 1 0
 
 -- t is s with number b become a
 pub record Renumbered (s : List ℕ) (b a : ℕ) (t : List ℕ) : Type 0 where
@@ -42,6 +39,21 @@ pub record RowPut (s : List ℕ) (j : ℕ) (row : List ℕ) (t : List ℕ) : Typ
   pub size : length t ≡ length s
   pub at : (l : ℕ) → l < 16 → getD t (j * 16 + l) 0 ≡ getD row l 0
   pub rest : (i l : ℕ) → l < 16 → i ≢ j → getD t (i * 16 + l) 0 ≡ getD s (i * 16 + l) 0
+
+-- t is s with the class b joined to a, which has kind k from then on, among the first v nodes
+pub record NodesJoined (s : List ℕ) (v a b k : ℕ) (t : List ℕ) : Type 0 where
+  pub size : length t ≡ length s
+  pub at-a : getD t a 0 ≡ k
+  pub at-b : getD t b 0 ≡ a + 128
+  pub inside : (j : ℕ) → j < v → j ≢ a → j ≢ b → getD t j 0 ≡ renumber (b + 128) (a + 128) (getD s j 0)
+  pub behind : (j : ℕ) → v ≤ j → getD t j 0 ≡ getD s j 0
+
+-- t is s with `row` for a, none for b, and number b become a in the first v rows
+pub record RowsJoined (s : List ℕ) (v a b : ℕ) (row t : List ℕ) : Type 0 where
+  pub at-a : (l : ℕ) → l < 16 → getD t (a * 16 + l) 0 ≡ renumber b a (getD row l 0)
+  pub at-b : (l : ℕ) → l < 16 → getD t (b * 16 + l) 0 ≡ 0
+  pub inside : (j l : ℕ) → l < 16 → j < v → j ≢ a → j ≢ b → getD t (j * 16 + l) 0 ≡ renumber b a (getD s (j * 16 + l) 0)
+  pub behind : (j l : ℕ) → l < 16 → v ≤ j → getD t (j * 16 + l) 0 ≡ getD s (j * 16 + l) 0
 
 -- T is S with the class of b joined to that of a, which has kind k from then on
 pub record Joined (S : Form) (a b k : ℕ) (T : Form) : Type 0 where
@@ -99,14 +111,14 @@ pub record Pushed (m : ℕ) (x y : ℕ → ℕ) (left right : List ℕ) (size : 
       (l : ℕ) → l < m → x l ≢ unknown → y l ≢ unknown
       → (i : ℕ) × (i < size') × (getD left' i 0 ≡ x l) × (getD right' i 0 ≡ y l)
 
--- what joining asks for: a table of n kinds, two classes in order, their kinds in range, and room for 16 pairs in place of the last
-pub record JoinReady (n : ℕ) (table : List ℕ) (S : Form) (low high : ℕ) (left right : List ℕ) (size : ℕ) : Type 0 where
-  pub kinds : n ≤ 64
-  pub table-size : length table ≡ n * n
+-- what joining asks for: a lawful table and a well-formed form, two classes in order, and room for 16 pairs in place of the last
+pub record JoinReady (n v : ℕ) (table node rows : List ℕ) (low high : ℕ) (left right : List ℕ) (size : ℕ) : Type 0 where
+  pub node-size : length node ≡ 96
+  pub rows-size : length rows ≡ rowsSize
+  pub ready : Ready n v table (nodesForm node rows)
   pub less : low < high
-  pub inside : high < 96
-  pub kind-low : S .kind low < n
-  pub kind-high : S .kind high < n
+  pub low-smallest : Smallest v (nodesForm node rows) low
+  pub high-smallest : Smallest v (nodesForm node rows) high
   pub some : 0 < size
   pub room-left : size + 15 ≤ length left
   pub room-right : size + 15 ≤ length right

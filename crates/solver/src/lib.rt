@@ -1,23 +1,25 @@
 // The solver: one fact more, and all that follows from it, or a clash.
 ghost use mathlib.Core.Path.{_≡_};
 ghost use mathlib.Core.Logic.{_≢_};
-ghost use mathlib.Core.List.{[], _∷_};
+ghost use mathlib.Core.Bool.{true};
+ghost use mathlib.Core.List.{List, [], _∷_};
 ghost use Prim.Native.Nat.{ℕ, _+_, _-_, _*_, _<_, _≤_};
 ghost use lib.ListN.{getD, length};
 ghost use Rattle.kinds.specs.Kinds.{meetAt};
-ghost use Rattle.meaning.specs.Picture.Fact.{has-kind, same, leads};
+ghost use Rattle.meaning.specs.Picture.Fact.{same};
 ghost use Rattle.meaning.specs.Form.{classes};
 ghost use Rattle.meaning.specs.Solving.{InRange};
-ghost use Rattle.solver.specs.Unpacked.{formOf, nodeFact, Ready, Took};
-ghost use Rattle.solver.specs.Steps.{renumber, knownOf, bothKnown, smallestCount, InOrder};
-ghost use Rattle.solver.specs.Steps.{Renumbered, RowOf, RowPut, Joined, Pushed, JoinReady, JoinStep};
+ghost use Rattle.solver.specs.Unpacked.{classAt, nodesForm, formOf, rowsSize, Proper, nodeFact, Ready, Took};
+ghost use Rattle.solver.specs.Steps.{renumber, knownOf, bothKnown, InOrder};
+ghost use Rattle.solver.specs.Steps.{Renumbered, RowOf, RowPut, NodesJoined, RowsJoined, Pushed, JoinReady, JoinStep};
 
-// The unpacked solved form of up to 96 nodes: the rig's joints first, then those of a rule.
+// The unpacked solved form of up to 96 nodes: the rig's joints first, then those of a rule. What is known of the nodes goes by value; the
+// rows, 16 links for each node, 255 for a link not known, are lent beside it.
 pub struct Solved {
-    pub class: [u8; 96],
-    pub kind: [u8; 96],
-    // One row of 16 links for each node; 255 is a link not known.
-    pub link: [u8; 1536],
+    // The kind where the node is the smallest of its class, else 128 and the class. Behind the nodes it is 128.
+    pub node: [u8; 96],
+    // False for a clash: then nothing is said of the nodes and the rows.
+    pub ok: bool,
 }
 
 // A fact on nodes: a kind, an equality, or a numbered link.
@@ -27,17 +29,19 @@ pub enum NodeFact {
     Link(u8, u8, u8),
 }
 
-// The next form, or a clash. (An enum may not hold an array, hence the flag beside it.)
-pub struct Next {
-    pub form: Solved,
-    pub ok: bool,
-}
-
-// Facts taken one after another, until one clashes: the form with those before it, how many these are, and whether all of them were taken.
+// Facts taken one after another, until one clashes: the form, and how many were taken before that one; all of them, where the form is no clash.
 pub struct Fold {
     pub form: Solved,
     pub at: usize,
-    pub ok: bool,
+}
+
+// The class of node x.
+pub fn class_at(node: &[u8; 96], x: u8) -> u8
+    requires { ⌜ (x < 96) × (length (now node) ≡ 96) ⌝ }
+    ensures { λ r. ⌜ r ≡ classAt (now (node .entry)) x ⌝ }
+{
+    let held = node[x as usize];
+    if held < 128 { x } else { held - 128 }
 }
 
 // b becomes a, any other number stays.
@@ -59,29 +63,29 @@ fn renumber_all(s: &mut [u8], b: u8, a: u8)
 }
 
 // The row of node j.
-fn row_of(link: &[u8; 1536], j: usize) -> [u8; 16]
-    requires { ⌜ j < 96 ⌝ }
-    ensures { λ r. ⌜ RowOf (now (link .entry)) j r ⌝ }
+fn row_of(rows: &[u8], j: usize) -> [u8; 16]
+    requires { ⌜ (j < 96) × (length (now rows) ≡ rowsSize) ⌝ }
+    ensures { λ r. ⌜ RowOf (now (rows .entry)) j r ⌝ }
 {
     let mut row = [0u8; 16];
     let base = j * 16;
     let mut l = 0;
     while l < 16 {
-        row[l] = link[base + l];
+        row[l] = rows[base + l];
         l += 1;
     }
     row
 }
 
 // The row of node j becomes row.
-fn put_row(link: &mut [u8], j: usize, row: [u8; 16])
-    requires { ⌜ (j < 96) × (length (now link) ≡ 1536) ⌝ }
-    ensures { λ u. ⌜ RowPut (now (link .entry)) j row (now (link .exit)) ⌝ }
+fn put_row(rows: &mut [u8], j: usize, row: [u8; 16])
+    requires { ⌜ (j < 96) × (length (now rows) ≡ rowsSize) ⌝ }
+    ensures { λ u. ⌜ RowPut (now (rows .entry)) j row (now (rows .exit)) ⌝ }
 {
     let base = j * 16;
     let mut l = 0;
     while l < 16 {
-        link[base + l] = row[l];
+        rows[base + l] = row[l];
         l += 1;
     }
 }
@@ -146,68 +150,64 @@ fn in_order(a: u8, b: u8) -> Two
     if a < b { Two(a, b) } else { Two(b, a) }
 }
 
-// The form with the class of b joined to that of a, which has kind k from then on.
-fn joined(form: Solved, a: u8, b: u8, k: u8) -> Solved
-    requires { ⌜ (a < b) × (b < 96) ⌝ }
-    ensures { λ r. ⌜ Joined (formOf form) a b k (formOf r) ⌝ }
+// The class b is joined to a, which has kind k from then on.
+fn join_nodes(node: &mut [u8], v: usize, a: u8, b: u8, k: u8)
+    requires { ⌜ (length (now node) ≡ 96) × (v ≤ 96) × (a < b) × (b < v) ⌝ }
+    ensures { λ u. ⌜ NodesJoined (now (node .entry)) v a b k (now (node .exit)) ⌝ }
 {
-    let mut class = form.class;
-    let mut kind = form.kind;
-    let mut link = form.link;
-    let x = row_of(&link, a as usize);
-    let y = row_of(&link, b as usize);
-    let row = merged(x, y);
-    put_row(&mut link, a as usize, row);
-    put_row(&mut link, b as usize, [0u8; 16]);
-    renumber_all(&mut link, b, a);
-    renumber_all(&mut class, b, a);
-    kind[a as usize] = k;
-    kind[b as usize] = 0;
-    Solved { class, kind, link }
+    renumber_all(&mut node[..v], b + 128, a + 128);
+    node[a as usize] = k;
+    node[b as usize] = a + 128;
 }
 
-// What joining two classes makes: the form and the new number of pairs, or a clash.
+// The row of a becomes row, that of b is given up, and every link to b leads to a.
+fn join_rows(rows: &mut [u8], v: usize, a: u8, b: u8, row: [u8; 16])
+    requires { ⌜ (length (now rows) ≡ rowsSize) × (v ≤ 96) × (a < b) × (b < v) ⌝ }
+    ensures { λ u. ⌜ RowsJoined (now (rows .entry)) v a b row (now (rows .exit)) ⌝ }
+{
+    put_row(rows, a as usize, row);
+    put_row(rows, b as usize, [0u8; 16]);
+    renumber_all(&mut rows[..16 * v], b, a);
+}
+
+// What joining two classes makes: the new number of pairs, or a clash.
 struct Step {
     ok: bool,
-    form: Solved,
     size: usize,
 }
 
 // The last pair is taken off, the classes low and high are joined, and the ends of the links known in both are new pairs;
 // or the two kinds have nothing in common.
 fn join_step(
-    form: Solved,
+    node: &mut [u8],
+    rows: &mut [u8],
     table: &[u8],
     n: usize,
+    v: usize,
     low: u8,
     high: u8,
     left: &mut [u8],
     right: &mut [u8],
     size: usize,
 ) -> Step
-    requires { ⌜ JoinReady n (now table) (formOf form) low high (now left) (now right) size ⌝ }
-    ensures { λ r. ⌜ JoinStep (meetAt n (now (table .entry))) (formOf form) low high
+    requires { ⌜ JoinReady n v (now table) (now node) (now rows) low high (now left) (now right) size ⌝ }
+    ensures { λ r. ⌜ JoinStep (meetAt n (now (table .entry))) (nodesForm (now (node .entry)) (now (rows .entry))) low high
         (now (left .entry)) (now (right .entry)) (size - 1)
-        (r .ok) (formOf (r .form)) (now (left .exit)) (now (right .exit)) (r .size) ⌝ }
+        (r .ok) (nodesForm (now (node .exit)) (now (rows .exit))) (now (left .exit)) (now (right .exit)) (r .size) ⌝ }
 {
-    let i = form.kind[low as usize];
-    let j = form.kind[high as usize];
+    let i = node[low as usize];
+    let j = node[high as usize];
     let k = kinds::meet(table, n, i as usize, j as usize);
     if k == 0 {
-        return Step {
-            ok: false,
-            form,
-            size,
-        };
+        return Step { ok: false, size };
     }
-    let link = form.link;
-    let x = row_of(&link, low as usize);
-    let y = row_of(&link, high as usize);
+    let x = row_of(rows, low as usize);
+    let y = row_of(rows, high as usize);
     let count = pushed(x, y, left, right, size - 1);
-    let next = joined(form, low, high, k);
+    join_nodes(node, v, low, high, k);
+    join_rows(rows, v, low, high, merged(x, y));
     Step {
         ok: true,
-        form: next,
         size: count,
     }
 }
@@ -215,110 +215,114 @@ fn join_step(
 impl Solved {
     // x and y made one, and all that follows from it. The pairs still to be made one wait in two lists. A join adds at most 16
     // pairs and leaves one class less, so that 16 × 97 places are enough for 96 nodes.
-    fn with_same(self, table: &[u8], n: usize, v: usize, x: u8, y: u8) -> Next
-        requires { ⌜ Ready n v (now table) (formOf self) × (x < v) × (y < v) ⌝ }
-        ensures { λ r. ⌜ Took n (meetAt n (now (table .entry))) v (formOf self) (same x y ∷ []) (r .ok) (formOf (r .form)) ⌝ }
+    fn with_same(self, rows: &mut [u8], table: &[u8], n: usize, v: usize, x: u8, y: u8) -> Solved
+        requires { ⌜ Ready n v (now table) (formOf self (now rows)) × (x < v) × (y < v) × (length (now rows) ≡ rowsSize) ⌝ }
+        ensures { λ r. ⌜ Took n (meetAt n (now (table .entry))) v (formOf self (now (rows .entry))) (same x y ∷ [])
+            (r .ok) (formOf r (now (rows .exit))) ⌝ }
     {
         let mut left = [0u8; 1552];
         let mut right = [0u8; 1552];
         left[0] = x;
         right[0] = y;
         let mut size = 1;
-        let mut form = self;
+        let mut node = self.node;
         while 0 < size {
             let p = left[size - 1];
             let q = right[size - 1];
-            let a = form.class[p as usize];
-            let b = form.class[q as usize];
+            let a = class_at(&node, p);
+            let b = class_at(&node, q);
             if a == b {
                 size -= 1;
             } else {
                 let o = in_order(a, b);
-                let s = join_step(form, table, n, o.0, o.1, &mut left, &mut right, size);
+                let s = join_step(
+                    &mut node,
+                    rows,
+                    table,
+                    n,
+                    v,
+                    o.0,
+                    o.1,
+                    &mut left,
+                    &mut right,
+                    size,
+                );
                 if !s.ok {
-                    return Next {
-                        ok: false,
-                        form: self,
-                    };
+                    return Solved { node, ok: false };
                 }
-                form = s.form;
                 size = s.size;
             }
         }
-        Next { ok: true, form }
+        Solved { node, ok: true }
     }
 
-    // The form with one fact more and all that follows from it, or a clash. A copy of the form costs more than most facts do: it is copied
-    // in once, changed in place and copied out once, and only where classes are to be joined is it handed on. So each arm returns by itself
-    // and puts together anew what `with_same` hands back: a result that the arms share would be copied once more.
-    pub fn with_fact(self, table: &[u8], n: usize, v: usize, fact: NodeFact) -> Next
-        requires { ⌜ Ready n v (now table) (formOf self) × InRange n v (nodeFact fact) ⌝ }
-        ensures { λ r. ⌜ Took n (meetAt n (now (table .entry))) v (formOf self) (nodeFact fact ∷ []) (r .ok) (formOf (r .form)) ⌝ }
+    // The form with one fact more and all that follows from it, or a clash. It is copied in once, changed in place and copied out once, at
+    // the one exit; only where classes are to be joined is it handed on.
+    pub fn with_fact(
+        self,
+        rows: &mut [u8],
+        table: &[u8],
+        n: usize,
+        v: usize,
+        fact: NodeFact,
+    ) -> Solved
+        requires { ⌜ (self .ok ≡ true) × (length (now rows) ≡ rowsSize)
+            × Ready n v (now table) (formOf self (now rows)) × InRange n v (nodeFact fact) ⌝ }
+        ensures { λ r. ⌜ Took n (meetAt n (now (table .entry))) v (formOf self (now (rows .entry))) (nodeFact fact ∷ [])
+            (r .ok) (formOf r (now (rows .exit))) ⌝ }
     {
         let mut form = self;
         match fact {
             // The kind of x's class is met with s; a clash where they have nothing in common.
             NodeFact::Kind(x, s) => {
-                let a = form.class[x as usize];
-                let known = form.kind[a as usize];
+                let a = class_at(&form.node, x);
+                let known = form.node[a as usize];
                 let met = kinds::meet(table, n, known as usize, s as usize);
                 if met == 0 {
-                    return Next { form, ok: false };
+                    form.ok = false;
+                } else {
+                    form.node[a as usize] = met;
                 }
-                form.kind[a as usize] = met;
-                return Next { form, ok: true };
             }
             NodeFact::Same(x, y) => {
-                if form.class[x as usize] == form.class[y as usize] {
-                    return Next { form, ok: true };
+                if class_at(&form.node, x) != class_at(&form.node, y) {
+                    form = form.with_same(rows, table, n, v, x, y);
                 }
-                let next = self.with_same(table, n, v, x, y);
-                let joined = next.form;
-                return Next {
-                    form: joined,
-                    ok: next.ok,
-                };
             }
             // Link l of x's class leads to y's class; where it is known already, its end and y are made one.
             NodeFact::Link(x, l, y) => {
-                let a = form.class[x as usize];
-                let at = a as usize * 16 + l as usize;
-                let end = form.link[at];
-                let c = form.class[y as usize];
+                let at = class_at(&form.node, x) as usize * 16 + l as usize;
+                let end = rows[at];
+                let c = class_at(&form.node, y);
                 if end == 255 {
-                    form.link[at] = c;
-                    return Next { form, ok: true };
+                    rows[at] = c;
+                } else {
+                    if class_at(&form.node, end) != c {
+                        form = form.with_same(rows, table, n, v, end, y);
+                    }
                 }
-                if form.class[end as usize] == c {
-                    return Next { form, ok: true };
-                }
-                let next = self.with_same(table, n, v, end, y);
-                let joined = next.form;
-                return Next {
-                    form: joined,
-                    ok: next.ok,
-                };
             }
         }
+        form
     }
 }
 
-// 1 where the class number x is j itself, else 0.
-fn is_smallest(x: u8, j: usize) -> usize
-    ensures { λ r. ⌜ (r ≡ smallestCount x j) × (r ≤ 1) ⌝ }
+// 1 where the node that holds x is the smallest of its class, else 0.
+fn is_smallest(x: u8) -> usize
+    ensures { λ r. ⌜ (x < 128 → r ≡ 1) × (128 ≤ x → r ≡ 0) × (r ≤ 1) ⌝ }
 {
-    if x as usize == j { 1 } else { 0 }
+    if x < 128 { 1 } else { 0 }
 }
 
 // How many classes the nodes below v make.
 pub fn classes_in(form: Solved, v: usize) -> usize
-    requires { ⌜ v ≤ 96 ⌝ }
-    ensures { λ r. ⌜ r ≡ classes (formOf form) v ⌝ }
+    requires { ⌜ (v ≤ 96) × Proper v form ⌝ }
+    ensures { λ r. ⌜ ((rows : List ℕ) → r ≡ classes (formOf form rows) v) ⌝ }
 {
     let mut count = 0;
     let mut j = 0;
     while j < v {
-        count += is_smallest(form.class[j], j);
+        count += is_smallest(form.node[j]);
         j += 1;
     }
     count

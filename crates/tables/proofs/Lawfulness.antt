@@ -116,10 +116,6 @@ module _ (n : ℕ) (table : List ℕ) where
   several-kept : Commutes n (meetAt n table) → Associates n (meetAt n table) → Kept (pairs n ++ triples n)
   several-kept swap group = kept-append (pairs n) (triples n) (pairs-kept swap) (triples-kept group)
 
-  -- where meet is commutative and associative no law of two or three kinds is broken
-  pub several-pass : Commutes n (meetAt n table) → Associates n (meetAt n table) → firstBreach n table (pairs n ++ triples n) ≡ Done 0
-  several-pass swap group = kept-passes (pairs n ++ triples n) (several-kept swap group)
-
   lawful-kept : 0 < n → Lawful n (meetAt n table) → Kept (inOrder n)
   unfolding singles lawReply
   lawful-kept pos L =

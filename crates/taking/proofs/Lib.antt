@@ -1,3 +1,4 @@
+pub mod Stored
 pub mod Taking
 pub mod Solution
 pub mod OneTake

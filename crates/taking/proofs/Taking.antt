@@ -83,9 +83,9 @@ module _ (b p : List ℕ) where
 
 -- what the solver makes of a packet is stored and told: a clash with nothing stored, or the joins with the form
 pub take-ends :
-    (clash : Bool) {b p after : List ℕ} {joins : ℕ} {form : Solved} {r : Reply}
-    → takeRefusal b p ≡ Done 0 → Solves b p clash joins form → after ≡ cond clash b (withSolved b form) → r ≡ cond clash (Refused Clash 0) (Done joins)
+    (clash : Bool) {b p after : List ℕ} {joins : ℕ} {form : Solved} {rows : List ℕ} {r : Reply}
+    → takeRefusal b p ≡ Done 0 → Solves b p clash joins form rows → after ≡ cond clash b (withSolved b form rows) → r ≡ cond clash (Refused Clash 0) (Done joins)
     → Take b p r after
 take-ends true d s q e = clashes d (s .no-picture refl) e q
-take-ends false {b} {p} {after} {joins} {form} {r} d s q e =
+take-ends false {b} {p} {after} {joins} {form} {rows} {r} d s q e =
     subst (λ (a : List ℕ). Take b p r a) (sym q) (done d (s .after refl) (e ∙ ap Done (s .count refl)))

@@ -1,8 +1,9 @@
 // Taking a packet of facts: all of them or none.
 ghost use mathlib.Core.Path.{_≡_};
-ghost use mathlib.Core.Bool.{cond};
+ghost use mathlib.Core.Bool.{true, cond};
 ghost use mathlib.Core.List.{map};
-ghost use lib.ListN.{length};
+ghost use Prim.Native.Nat.{_<_};
+ghost use lib.ListN.{length, replicate};
 ghost use Rattle.kinds.specs.Kinds.{meetAt};
 ghost use Rattle.meaning.specs.Picture.{rename};
 ghost use Rattle.meaning.specs.Solving.{rigNumber};
@@ -11,10 +12,10 @@ ghost use Rattle.packets.specs.Decoding.{rigFact};
 ghost use Rattle.screening.specs.Screening.{packetReply, factsWanted};
 ghost use Rattle.replies.specs.declared.Cause.{Cause};
 ghost use Rattle.replies.specs.declared.Reply.{Reply};
-ghost use Rattle.solver.specs.Unpacked.{formOf, nodeFact, Ready, Folded};
+ghost use Rattle.solver.specs.Unpacked.{kindAt, formOf, rowsSize, nodeFact, Ready, Folded};
 ghost use Rattle.blocks.specs.Layout.{blockSize};
 ghost use Rattle.taking.specs.Take.{takeRefusal, Take};
-ghost use Rattle.taking.specs.Solve.{withSolved, Solves};
+ghost use Rattle.taking.specs.Solve.{classBytes, kindBytes, withSolved, Solves};
 use meaning::RigFact;
 use replies::Cause;
 use replies::Reply;
@@ -41,29 +42,29 @@ fn rig_node_fact(fact: RigFact) -> NodeFact
 }
 
 // The packet's facts taken one after another, until one clashes.
-fn with_facts(start: Solved, table: &[u8], n: usize, v: usize, packet: &[u8]) -> Fold
-    requires { ⌜ Ready n v (now table) (formOf start) ⌝ ∗ ⌜ packetReply (factsWanted v) n v (now packet) ≡ Reply.Done 0 ⌝ }
-    ensures { λ r. ⌜ Folded n (meetAt n (now (table .entry))) v (formOf start) (map (rename rigNumber) (rigFacts (now (packet .entry)))) (r .at) (r .ok) (formOf (r .form)) ⌝ }
+fn with_facts(
+    start: Solved,
+    rows: &mut [u8],
+    table: &[u8],
+    n: usize,
+    v: usize,
+    packet: &[u8],
+) -> Fold
+    requires { ⌜ (start .ok ≡ true) × (length (now rows) ≡ rowsSize) × Ready n v (now table) (formOf start (now rows)) ⌝ }
+    requires { ⌜ packetReply (factsWanted v) n v (now packet) ≡ Reply.Done 0 ⌝ }
+    ensures { λ r. ⌜ Folded n (meetAt n (now (table .entry))) v (formOf start (now (rows .entry)))
+        (map (rename rigNumber) (rigFacts (now (packet .entry)))) (r .at) (r .form .ok) (formOf (r .form) (now (rows .exit))) ⌝ }
 {
     let mut form = start;
     let count = packets::fact_count(packet);
     for i in 0..count {
         let fact = packets::rig_fact(packet, packets::fact_at(packet, i));
-        let next = form.with_fact(table, n, v, rig_node_fact(fact));
-        if !next.ok {
-            return Fold {
-                form,
-                at: i,
-                ok: false,
-            };
+        form = form.with_fact(rows, table, n, v, rig_node_fact(fact));
+        if !form.ok {
+            return Fold { form, at: i };
         }
-        form = next.form;
     }
-    Fold {
-        form,
-        at: count,
-        ok: true,
-    }
+    Fold { form, at: count }
 }
 
 // Replies 1 and 4 to 9; done where none fits.
@@ -81,17 +82,17 @@ fn refusal(block: &[u8], packet: &[u8]) -> Reply
     )
 }
 
-// The packet's facts taken with those of the block.
-fn solve(block: &[u8], packet: &[u8]) -> Outcome
-    requires { ⌜ takeRefusal (now block) (now packet) ≡ Reply.Done 0 ⌝ }
-    ensures { λ r. ⌜ Solves (now (block .entry)) (now (packet .entry)) (r .clash) (r .joins) (r .form) ⌝ }
+// The packet's facts taken with those of the block. The rows of the next form are in `rows`, which are zeros before.
+fn solve(block: &[u8], packet: &[u8], rows: &mut [u8]) -> Outcome
+    requires { ⌜ takeRefusal (now block) (now packet) ≡ Reply.Done 0 ⌝ ∗ ⌜ now rows ≡ replicate rowsSize 0 ⌝ }
+    ensures { λ r. ⌜ Solves (now (block .entry)) (now (packet .entry)) (r .clash) (r .joins) (r .form) (now (rows .exit)) ⌝ }
 {
     let n = joints::kind_count(block) as usize;
     let v = joints::joint_count(block) as usize;
-    let start = unpacking::unpack(block, v, 0);
-    let end = with_facts(start, blocks::kind_table(block), n, v, packet);
+    let start = unpacking::unpack(rows, block, v, 0);
+    let end = with_facts(start, rows, blocks::kind_table(block), n, v, packet);
     let form = end.form;
-    if !end.ok {
+    if !form.ok {
         return Outcome {
             clash: true,
             joins: 0,
@@ -106,18 +107,50 @@ fn solve(block: &[u8], packet: &[u8]) -> Outcome
     }
 }
 
+// The kind of node x.
+fn kind_at(node: &[u8; 96], x: u8) -> u8
+    requires { ⌜ (x < 96) × (length (now node) ≡ 96) ⌝ }
+    ensures { λ r. ⌜ r ≡ kindAt (now (node .entry)) x ⌝ }
+{
+    let held = node[x as usize];
+    if held < 128 { held } else { 0 }
+}
+
+// The class number of each of the first 64 nodes.
+fn class_bytes(form: Solved) -> [u8; 64]
+    ensures { λ r. ⌜ r ≡ classBytes form ⌝ }
+{
+    let node = form.node;
+    let mut class = [0u8; 64];
+    for j in 0..64 {
+        class[j] = solver::class_at(&node, j as u8);
+    }
+    class
+}
+
+// The kind of each of the first 64 nodes.
+fn kind_bytes(form: Solved) -> [u8; 64]
+    ensures { λ r. ⌜ r ≡ kindBytes form ⌝ }
+{
+    let node = form.node;
+    let mut kind = [0u8; 64];
+    for j in 0..64 {
+        kind[j] = kind_at(&node, j as u8);
+    }
+    kind
+}
+
 // The form stored into the block; where the facts clash, nothing is.
-fn store(block: &mut [u8], form: Solved, clash: bool)
-    requires { ⌜ length (now block) ≡ blockSize ⌝ }
-    ensures { λ _. ⌜ now (block .exit) ≡ cond clash (now (block .entry)) (withSolved (now (block .entry)) form) ⌝ }
+fn store(block: &mut [u8], form: Solved, rows: &[u8], clash: bool)
+    requires { ⌜ (length (now block) ≡ blockSize) × (length (now rows) ≡ rowsSize) ⌝ }
+    ensures { λ _. ⌜ now (block .exit) ≡ cond clash (now (block .entry)) (withSolved (now (block .entry)) form (now (rows .entry))) ⌝ }
 {
     if clash {
         return;
     }
-    let class = form.class;
-    let kind = form.kind;
-    let link = form.link;
-    joints::store(block, &class, &kind, &link);
+    let class = class_bytes(form);
+    let kind = kind_bytes(form);
+    joints::store(block, &class, &kind, rows);
 }
 
 // The reply where none of 1 to 9 fits.
@@ -139,9 +172,10 @@ pub fn take(block: &mut [u8], packet: &[u8]) -> Reply
     if refused {
         return reply;
     }
-    let outcome = solve(block, packet);
+    let mut rows = [0u8; 1536];
+    let outcome = solve(block, packet, &mut rows);
     let form = outcome.form;
     let clash = outcome.clash;
-    store(block, form, clash);
+    store(block, form, &rows, clash);
     told(clash, outcome.joins)
 }

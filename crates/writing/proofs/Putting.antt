@@ -4,12 +4,12 @@
 use mathlib.Core.Path.{_≡_, refl, sym, ap, _∙_}
 use mathlib.Core.Bool.{Bool, true, false, cond}
 use mathlib.Core.List.{List, [], _∷_, _++_, append-assoc, append-nil}
-use Prim.Native.Nat.{ℕ, suc, _+_, _-_, _*_, _/_, _%_, _<_, _≤_}
+use Prim.Native.Nat.{ℕ, zero, suc, _+_, _-_, _*_, _/_, _%_, _<_, _≤_}
 use native.Mathlib.Omega.{arith}
 use native.Mathlib.Numerals.{add-one}
 use lib.Dec.{eqb}
 use lib.ListN.{length, set, take, drop, length-append, length-take, length-drop, length-set}
-use lib.Seq.{sets-eq, take-at, drop-at, take-add, length-take-le}
+use lib.Seq.{sets-eq, take-at, drop-at, take-add, drop-drop, length-take-le}
 use borrow.Author.Tests.{eq-eqb, ne-eqb}
 use Rattle.meaning.specs.declared.RigJoint.{RigJoint}
 use Rattle.meaning.specs.Picture.{Fact, rename}
@@ -30,10 +30,12 @@ four-put s at a b c d h =
     let three : at + 3 ≡ suc (suc (suc at)) = omega arith in
     let e : set (set (set (set s at a) (at + 1) b) (at + 2) c) (at + 3) d ≡ (take at s ++ new) ++ drop (at + 4) s =
     rw (one, two, three) (sets-eq new s at h) in
+    let long : length (take at s ++ new) ≡ at + 4 = simp (length-append, length-take) (omega arith) in
     record {
       size = simp length-set;
       ends = refl;
-      front = ap (take (at + 4)) e ∙ take-at (take at s ++ new) (drop (at + 4) s) (at + 4) (simp (length-append, length-take) (omega arith));
+      front = ap (take (at + 4)) e ∙ take-at (take at s ++ new) (drop (at + 4) s) (at + 4) long;
+      behind = ap (drop (at + 4)) e ∙ drop-at (take at s ++ new) (drop (at + 4) s) (at + 4) long;
     }
 
 pub six-put :
@@ -42,17 +44,38 @@ pub six-put :
 six-put s a b c d e f h = sets-eq (a ∷ b ∷ c ∷ d ∷ e ∷ f ∷ []) s 0 h
 
 pub none-put : (at : ℕ) (s : List ℕ) → Put [] at s s at
-none-put at s = record { size = refl; ends = omega arith; front = sym (append-nil (take at s)) }
+none-put at s = record { size = refl; ends = omega arith; front = sym (append-nil (take at s)); behind = refl }
+
+pub nothing-put : {fs : List (Fact ℕ)} (at : ℕ) (s : List ℕ) → fs ≡ [] → Put (formBytes fs) at s s at
+unfolding allBytes
+nothing-put at s e = rw e (none-put at s)
+
+-- four bytes that make the largest number are the largest each
+pub all-ones :
+    (a b c d : ℕ) → a < 256 → b < 256 → c < 256 → d < 256 → a + 256 * b + 65536 * c + 16777216 * d ≡ 4294967295 →
+    (a ≡ 255) × (b ≡ 255) × (c ≡ 255) × (d ≡ 255)
+all-ones a b c d ha hb hc hd e = (omega arith, omega arith, omega arith, omega arith)
 
 -- at `at`, with t written so far: what is left to put makes it s up to `from` and then all the bytes
 pub record Putting (all : List ℕ) (from : ℕ) (s t : List ℕ) (at : ℕ) (left : List ℕ) : Type 0 where
   pub size : length t ≡ length s
   pub ends : at + length left ≡ from + length all
   pub front : take at t ++ left ≡ take from s ++ all
+  pub behind : drop at t ≡ drop at s
 
 pub put-begins : {all left : List ℕ} (from : ℕ) (s : List ℕ) → all ≡ left → Putting all from s s from left
 put-begins from s e =
-    record { size = refl; ends = ap (λ (l : List ℕ). from + length l) (sym e); front = ap (λ (l : List ℕ). take from s ++ l) (sym e) }
+    record {
+      size = refl;
+      ends = ap (λ (l : List ℕ). from + length l) (sym e);
+      front = ap (λ (l : List ℕ). take from s ++ l) (sym e);
+      behind = refl;
+    }
+
+-- what is the same from `at` on is the same from further on
+further : (s t : List ℕ) (at k : ℕ) {end : ℕ} → end ≡ at + k → drop at t ≡ drop at s → drop end t ≡ drop end s
+further s t at k e h =
+    ap (λ (i : ℕ). drop i t) e ∙ sym (drop-drop k at t) ∙ ap (drop k) h ∙ drop-drop k at s ∙ ap (λ (i : ℕ). drop i s) (sym e)
 
 module _ {all s t left : List ℕ} {from at : ℕ} (p : Putting all from s t at left) where
   -- the next part has room, and is put
@@ -69,6 +92,7 @@ module _ {all s t left : List ℕ} {from at : ℕ} (p : Putting all from s t at 
             ∙ append-assoc (take at t) new more
             ∙ ap (λ (l : List ℕ). take at t ++ l) (sym e)
             ∙ p .front;
+        behind = q .behind ∙ further s t at (length new) (q .ends) (p .behind);
       }
 
   pub put-ends : left ≡ [] → Put all from s t at
@@ -77,6 +101,7 @@ module _ {all s t left : List ℕ} {from at : ℕ} (p : Putting all from s t at 
         size = p .size;
         ends = omega (arith, p .ends, ap length e);
         front = sym (append-nil (take at t)) ∙ ap (λ (l : List ℕ). take at t ++ l) (sym e) ∙ p .front;
+        behind = p .behind;
       }
 
 bytes-append : (fs gs : List (Fact ℕ)) → formBytes (fs ++ gs) ≡ formBytes fs ++ formBytes gs
@@ -92,24 +117,64 @@ unfolding allBytes
 maybe-first true f fs = refl
 maybe-first false f fs = refl
 
+-- a fact that a test may leave out, in front of two lists
+maybe-before : (b : Bool) (f : Fact ℕ) (fs gs : List (Fact ℕ)) → cond b (fs ++ gs) (f ∷ (fs ++ gs)) ≡ cond b fs (f ∷ fs) ++ gs
+maybe-before true f fs gs = refl
+maybe-before false f fs gs = refl
+
 module _ (S : Form) where
-  -- what is left at link l of joint j, and at joint j of v
-  abbrev pub linksLeft : ℕ → ℕ → List ℕ
-  linksLeft j l = formBytes (linksFrom S j l (16 - l))
+  -- what is left at link l of joint j's links below `last`, and at joint j of v
+  abbrev pub linksLeft : ℕ → ℕ → ℕ → List ℕ
+  linksLeft j last l = formBytes (linksFrom S j l (last - l))
 
   abbrev pub jointsLeft : ℕ → ℕ → List ℕ
   jointsLeft v j = formBytes (factsFrom S j (v - j))
 
   -- c is the link that was read
-  pub links-step : (j l : ℕ) {c : ℕ} → l < 16 → c ≡ S .link j l → linksLeft j l ≡ linkBytes j l c ++ linksLeft j (l + 1)
+  pub links-step : (j last l : ℕ) {c : ℕ} → l < last → c ≡ S .link j l → linksLeft j last l ≡ linkBytes j l c ++ linksLeft j last (l + 1)
   unfolding linksFrom
-  links-step j l {c} h q =
-      let e : 16 - l ≡ suc (16 - (l + 1)) = omega arith in
-      rw (e, add-one, q) (maybe-first (eqb (S .link j l) unknown) (leads j l (S .link j l)) (linksFrom S j (suc l) (16 - suc l)))
+  links-step j last l {c} h q =
+      let e : last - l ≡ suc (last - (l + 1)) = omega arith in
+      rw (e, add-one, q) (maybe-first (eqb (S .link j l) unknown) (leads j l (S .link j l)) (linksFrom S j (suc l) (last - suc l)))
 
-  pub links-end : {l : ℕ} (j : ℕ) → 16 ≤ l → linksLeft j l ≡ []
+  pub links-end : {last l : ℕ} (j : ℕ) → last ≤ l → linksLeft j last l ≡ []
   unfolding linksFrom allBytes
-  links-end {l} j h = let e : 16 - l ≡ 0 = omega arith in rw e
+  links-end {last} {l} j h = let e : last - l ≡ 0 = omega arith in rw e
+
+  links-split : (j l a b : ℕ) → linksFrom S j l (a + b) ≡ linksFrom S j l a ++ linksFrom S j (l + a) b
+  unfolding linksFrom
+  links-split j l zero b =
+      let s : l ≡ l + 0 = omega arith in
+      let e : 0 + b ≡ b = omega arith in
+      ap (linksFrom S j l) e ∙ ap (λ (k : ℕ). linksFrom S j k b) s
+  links-split j l (suc a) b =
+      let e : suc a + b ≡ suc (a + b) = omega arith in
+      let s : suc l + a ≡ l + suc a = omega arith in
+      let next = links-split j (suc l) a b ∙ ap (λ (k : ℕ). linksFrom S j (suc l) a ++ linksFrom S j k b) s in
+      ap (linksFrom S j l) e
+      ∙ ap (λ (fs : List (Fact ℕ)). cond (eqb (S .link j l) unknown) fs (leads j l (S .link j l) ∷ fs)) next
+      ∙ maybe-before (eqb (S .link j l) unknown) (leads j l (S .link j l)) (linksFrom S j (suc l) a) (linksFrom S j (l + suc a) b)
+
+  -- the q-th four of 16 links
+  pub fours-step : (j q : ℕ) → q < 4 → linksLeft j 16 (4 * q) ≡ formBytes (linksFrom S j (4 * q) 4) ++ linksLeft j 16 (4 * (q + 1))
+  fours-step j q h =
+      let e : 16 - 4 * q ≡ 4 + (16 - 4 * (q + 1)) = omega arith in
+      let n : 4 * q + 4 ≡ 4 * (q + 1) = omega arith in
+      ap (λ (k : ℕ). formBytes (linksFrom S j (4 * q) k)) e
+      ∙ ap formBytes (links-split j (4 * q) 4 (16 - 4 * (q + 1)))
+      ∙ ap (λ (k : ℕ). formBytes (linksFrom S j (4 * q) 4 ++ linksFrom S j k (16 - 4 * (q + 1)))) n
+      ∙ bytes-append (linksFrom S j (4 * q) 4) (linksFrom S j (4 * (q + 1)) (16 - 4 * (q + 1)))
+
+  -- none of four links is known
+  pub none-known :
+      (j l : ℕ) → S .link j l ≡ unknown → S .link j (l + 1) ≡ unknown → S .link j (l + 2) ≡ unknown → S .link j (l + 3) ≡ unknown →
+      linksFrom S j l 4 ≡ []
+  unfolding linksFrom
+  none-known j l a b c d =
+      let one : suc l ≡ l + 1 = omega arith in
+      let two : suc (l + 1) ≡ l + 2 = omega arith in
+      let three : suc (l + 2) ≡ l + 3 = omega arith in
+      rw (a, one, b, two, c, three, d)
 
   pub joints-begin : (v from : ℕ) (s : List ℕ) → Putting (formBytes (factsFrom S 0 v)) from s s from (jointsLeft v 0)
   joints-begin v from s = let e : v ≡ v - 0 = omega arith in put-begins from s (ap (λ (k : ℕ). formBytes (factsFrom S 0 k)) e)
@@ -129,7 +194,7 @@ module _ (S : Form) where
   unfolding factsAt allBytes
   at-other j {c} e d = rw (← e, ne-eqb c j d)
 
-  pub at-smallest : (j : ℕ) {c k : ℕ} → c ≡ S .class j → c ≡ j → k ≡ S .kind j → formBytes (factsAt S j) ≡ kindBytes j k ++ linksLeft j 0
+  pub at-smallest : (j : ℕ) {c k : ℕ} → c ≡ S .class j → c ≡ j → k ≡ S .kind j → formBytes (factsAt S j) ≡ kindBytes j k ++ linksLeft j 16 0
   unfolding factsAt
   at-smallest j {c} {k} e d q = rw (← e, eq-eqb c j d, ← q) (maybe-first (eqb k 1) (has-kind j k) (linksFrom S j 0 16))
 
@@ -153,22 +218,22 @@ module _ (S : Form) (j at : ℕ) (s : List ℕ) {c : ℕ} (e : c ≡ S .class j)
   other-put d p = rw (at-other S j e d) p
 
   module _ (d : c ≡ j) {k : ℕ} (q : k ≡ S .kind j) where
-    joint-begins : Putting (formBytes (factsAt S j)) at s s at (kindBytes j k ++ linksLeft S j 0)
+    joint-begins : Putting (formBytes (factsAt S j)) at s s at (kindBytes j k ++ linksLeft S j 16 0)
     joint-begins = put-begins at s (at-smallest S j e d q)
 
     pub kind-room : Room (formBytes (factsAt S j)) at s → Room (kindBytes j k) at s
-    kind-room r = put-room joint-begins (kindBytes j k) (linksLeft S j 0) refl r
+    kind-room r = put-room joint-begins (kindBytes j k) (linksLeft S j 16 0) refl r
 
     -- the kind is put; then the links
     module _ {t : List ℕ} {end : ℕ} (p : Put (kindBytes j k) at s t end) where
-      kind-done : Putting (formBytes (factsAt S j)) at s t end (linksLeft S j 0)
-      kind-done = put-goes-on joint-begins (linksLeft S j 0) refl p
+      kind-done : Putting (formBytes (factsAt S j)) at s t end (linksLeft S j 16 0)
+      kind-done = put-goes-on joint-begins (linksLeft S j 16 0) refl p
 
-      pub links-room : Room (formBytes (factsAt S j)) at s → Room (linksLeft S j 0) end t
-      links-room r = put-room kind-done (linksLeft S j 0) [] (sym (append-nil (linksLeft S j 0))) r
+      pub links-room : Room (formBytes (factsAt S j)) at s → Room (linksLeft S j 16 0) end t
+      links-room r = put-room kind-done (linksLeft S j 16 0) [] (sym (append-nil (linksLeft S j 16 0))) r
 
-      pub smallest-put : {u : List ℕ} {last : ℕ} → Put (linksLeft S j 0) end t u last → Put (formBytes (factsAt S j)) at s u last
-      smallest-put l = put-ends (put-goes-on kind-done [] (sym (append-nil (linksLeft S j 0))) l) refl
+      pub smallest-put : {u : List ℕ} {last : ℕ} → Put (linksLeft S j 16 0) end t u last → Put (formBytes (factsAt S j)) at s u last
+      smallest-put l = put-ends (put-goes-on kind-done [] (sym (append-nil (linksLeft S j 16 0))) l) refl
 
 -- the facts put from byte 6 on, and then the six bytes before them
 pub form-put :
@@ -190,4 +255,10 @@ form-put v fs {s} {t} {u} {end} h p e =
           ∙ ap (take (suc (suc (suc (suc (suc (suc m))))))) e
           ∙ ap (λ (l : List ℕ). (end - 2) / 256 ∷ (end - 2) % 256 ∷ 1 ∷ 1 ∷ 0 ∷ v ∷ l) behind
           ∙ ap (λ (l : ℕ). l / 256 ∷ l % 256 ∷ 1 ∷ 1 ∷ 0 ∷ v ∷ allBytes fs) q;
+      behind =
+          ap (λ (k : ℕ). drop k u) six
+          ∙ ap (drop (suc (suc (suc (suc (suc (suc m))))))) e
+          ∙ drop-drop m 6 t
+          ∙ ap (λ (k : ℕ). drop k t) (sym (p .ends))
+          ∙ p .behind;
     }

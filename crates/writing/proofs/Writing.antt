@@ -7,7 +7,7 @@ use mathlib.Core.List.{List, [], _∷_, _++_}
 use Prim.Native.Nat.{ℕ, zero, suc, _*_, _^_, _<_, _≤_}
 use native.Mathlib.Omega.{arith}
 use lib.Dec.{eqb}
-use lib.ListN.{length, drop, length-append, length-map}
+use lib.ListN.{length, drop, length-append, length-map, take-append-drop}
 use Rattle.replies.specs.declared.Reply.the-variants.{Done}
 use Rattle.replies.specs.Replies.{refuses, third}
 use Rattle.replies.proofs.Laws.{first-here, first-next, first-none, refusal-third}
@@ -53,15 +53,15 @@ module _ (v : ℕ) (S : Form) (few : v ≤ 64) where
   pub taken-few : length (takenFacts v S) ≤ 1088
   taken-few = omega (arith, facts-few S 0 v, length-map (factsFrom S 0 v) (rename rigJoint))
 
-  pub facts-room : (s : List ℕ) → length s ≡ mostBytes → Room (allBytes (takenFacts v S)) 6 s
+  pub facts-room : (s : List ℕ) → mostBytes ≤ length s → Room (allBytes (takenFacts v S)) 6 s
   facts-room s e = omega (arith, bytes-four (takenFacts v S), taken-few)
 
   pub put-short : {s t : List ℕ} {end : ℕ} → Put (allBytes (takenFacts v S)) 6 s t end → end ≤ mostBytes
   put-short p = omega (arith, p .ends, bytes-four (takenFacts v S), taken-few)
 
--- the solved form of a good block has at most 4,358 bytes
-pub solved-form-short : {b : List ℕ} → GoodBlock b → length (solvedForm b) ≤ mostBytes
-solved-form-short {b} g = omega (arith, packet-size (jointsOf b) (taken b), taken-few (jointsOf b) (blockForm b) (g .well .v-high))
+-- the solved form of at most 64 joints has at most 4,358 bytes
+pub solved-form-short : (b : List ℕ) → jointsOf b ≤ 64 → length (solvedForm b) ≤ mostBytes
+solved-form-short b few = omega (arith, packet-size (jointsOf b) (taken b), taken-few (jointsOf b) (blockForm b) few)
 
 -- the form of v joints, as many as the block says
 pub form-done :
@@ -70,8 +70,26 @@ pub form-done :
 form-done b {s} {t} {size} e p = subst (λ (v : ℕ). Put (factsPacket v (takenFacts v (blockForm b))) 0 s t size) e p
 
 -- it stands in the front of its array
-pub form-inside : {b s t : List ℕ} {size : ℕ} → GoodBlock b → Put (solvedForm b) 0 s t size → length s ≡ mostBytes → size ≤ length t
-form-inside g p e = omega (arith, p .size, p .ends, solved-form-short g)
+module _ (b : List ℕ) {s t : List ℕ} {size : ℕ} (few : jointsOf b ≤ 64) (p : Put (solvedForm b) 0 s t size) where
+  pub form-inside : length s ≡ mostBytes → size ≤ length t
+  form-inside e = omega (arith, p .size, p .ends, solved-form-short b few)
+
+  -- or in the front of an output that has room for any, where all of it has been put and nothing else
+  pub put-size : size ≤ mostBytes
+  put-size = omega (arith, p .ends, solved-form-short b few)
+
+  pub straight : mostBytes ≤ length s → (Done size ≡ outputReply (solvedForm b) s) × (t ≡ outputAfter (solvedForm b) s)
+  straight room =
+      let form = solvedForm b in
+      let short = solved-form-short b few in
+      let e : size ≡ length form = omega (arith, p .ends) in
+      let h : length form ≤ length s = omega arith in (
+        ap Done e ∙ sym (has-room form s h),
+        sym (take-append-drop size t)
+            ∙ ap (λ (x : List ℕ). x ++ drop size t) (p .front)
+            ∙ ap (λ (x : List ℕ). form ++ x) (p .behind ∙ ap (λ (k : ℕ). drop k s) e)
+            ∙ all-put form s h,
+      )
 
 -- the answers of the call: that of the block where it refuses, else that of the output
 module _ (b out : List ℕ) where
@@ -111,4 +129,4 @@ module _ (b out : List ℕ) where
       by-block : (t : Bool) → refuses (blockReply b) ≡ t → third (writeReply b out) < 2 ^ 24
       by-block true e = rw (block-refuses e, refusal-third (blockReply b) e) (omega arith)
       by-block false e =
-          rw (output-decides e) (output-third (solvedForm b) out (omega (arith, solved-form-short (good-block b e))))
+          rw (output-decides e) (output-third (solvedForm b) out (omega (arith, solved-form-short b (good-block b e .well .v-high))))

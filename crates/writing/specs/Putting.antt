@@ -5,7 +5,7 @@ use mathlib.Core.Bool.{cond}
 use mathlib.Core.List.{List, [], _++_, map}
 use Prim.Native.Nat.{ℕ, _+_, _≤_}
 use lib.Dec.{eqb}
-use lib.ListN.{length, take}
+use lib.ListN.{length, take, drop}
 use Rattle.meaning.specs.Picture.{Fact, rename}
 use Rattle.meaning.specs.Picture.Fact.{has-kind, same, leads}
 use Rattle.meaning.specs.Form.{unknown, rigJoint}
@@ -23,11 +23,12 @@ mostBytes = 4358
 abbrev pub Room : List ℕ → ℕ → List ℕ → Type 0
 Room bytes at s = at + length bytes ≤ length s
 
--- t is as long as s, and up to `end` it is s up to `at` and then the bytes
+-- t is as long as s; up to `end` it is s up to `at` and then the bytes, and behind that it is s
 pub record Put (bytes : List ℕ) (at : ℕ) (s t : List ℕ) (end : ℕ) : Type 0 where
   pub size : length t ≡ length s
   pub ends : end ≡ at + length bytes
   pub front : take end t ≡ take at s ++ bytes
+  pub behind : drop end t ≡ drop end s
 
 -- the bytes of a form's facts, on the rig's joints
 abbrev pub formBytes : List (Fact ℕ) → List ℕ

@@ -1,8 +1,8 @@
 -- `asking::settled` meets its contract: the rig's part first, then the rule's joints.
 -- Assumes nothing.
-use borrow.Author.Needs.{needs}
 use borrow.Author.Tests.{not-true, not-false}
 use Rattle.asking.proofs.Asking.{no, answers-same, with-inside, without-inside}
+use borrow.Author.Needs.{needs}
 use Rattle.asking.proofs.settled.Statement.{statement}
 use Rattle.asking.proofs.settled.Tie as tie
 

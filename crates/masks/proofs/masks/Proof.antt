@@ -1,36 +1,42 @@
--- `masks::masks` meets its contract: there is room for 64 masks, and no kind is 64 or more.
+-- `masks::masks` meets its contract: n / 8 times eight kinds, and those behind them.
 -- Assumes nothing.
-use Prim.Native.Nat.{_-_, _≤_}
+use mathlib.Core.Path.{_≡_, refl, sym}
+use Prim.Native.Nat.{_-_, _/_}
 use native.Mathlib.Omega.{arith}
+use lib.ListN.{length}
+use borrow.Author.Needs.{needs}
 use Rattle.masks.proofs.masks.Statement.{statement}
 use Rattle.masks.proofs.masks.Tie as tie
 
 abbrev Inv-loop : tie.InvT-loop
-Inv-loop table n all₀ i₀ all i = i ≤ n
+Inv-loop table n all₀ k₀ k-end all k = (k-end ≡ n / 8) × (length all ≡ 64)
 
 abbrev μ-loop : tie.MeasureT-loop
-μ-loop table n all₀ i₀ all i = n - i
+μ-loop table n all₀ k₀ k-end all k = k-end - k
 
 loop-holds : tie.Need-loop-holds Inv-loop μ-loop
-loop-holds c = omega arith
+loop-holds c = (refl, search needs)
 
-mask-of-requires : tie.Need-mask-of-requires Inv-loop μ-loop
-mask-of-requires c κs = let p = c .before .before .before .pre in (p .0, (p .1, omega arith))
+slice-aggregate-add-eight : tie.Need-slice-aggregate-add-eight Inv-loop μ-loop
+slice-aggregate-add-eight c = sym (c .before .before .loop .inv .1)
 
-mul-all : tie.Need-mul-all Inv-loop μ-loop
-mul-all c = omega (arith, c .before .before .before .before .pre .0 .high)
+add-eight-requires : tie.Need-add-eight-requires Inv-loop μ-loop
+add-eight-requires c κs = let i = c .before .before .loop .inv in (i .1, (c .before .before .before .before .pre, omega (arith, i .0)))
 
-array-write-all : tie.Need-array-write-all Inv-loop μ-loop
-array-write-all c = omega (arith, c .before .before .before .before .pre .0 .high)
-
-add-i : tie.Need-add-i Inv-loop μ-loop
-add-i c = omega arith
+add-k : tie.Need-add-k Inv-loop μ-loop
+add-k c = omega arith
 
 loop-less : tie.Need-loop-less Inv-loop μ-loop
 loop-less c = omega arith
 
 loop-again : tie.Need-loop-again Inv-loop μ-loop
-loop-again c = omega arith
+loop-again c = (c .before .before .before .before .loop .inv .0, search needs)
+
+slice-aggregate-add-rest : tie.Need-slice-aggregate-add-rest Inv-loop μ-loop
+slice-aggregate-add-rest c = sym (c .before .before .loop .inv .1)
+
+add-rest-requires : tie.Need-add-rest-requires Inv-loop μ-loop
+add-rest-requires c κs = (c .before .before .loop .inv .1, c .before .before .before .before .pre)
 
 returns : tie.Need-returns Inv-loop μ-loop
 returns c = tt
@@ -42,10 +48,11 @@ masks-spec =
     Inv-loop
     μ-loop
     loop-holds
-    mask-of-requires
-    mul-all
-    array-write-all
-    add-i
+    slice-aggregate-add-eight
+    add-eight-requires
+    add-k
     loop-less
     loop-again
+    slice-aggregate-add-rest
+    add-rest-requires
     returns)

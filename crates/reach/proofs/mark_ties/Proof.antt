@@ -23,7 +23,7 @@ byte-at-requires : tie.Need-byte-at-requires Inv-loop μ-loop
 byte-at-requires c κs = omega (arith, rule-well (c .before .pre) .whole .header)
 
 loop-holds : tie.Need-loop-holds Inv-loop μ-loop
-loop-holds c = (omega arith, c .byte-at .ensures .0, none-sound _ 32, below-none _)
+loop-holds c = (omega arith, c .byte-at .ensures .0, none-sound _, below-none _)
 
 mul-byte-at : tie.Need-mul-byte-at Inv-loop μ-loop
 mul-byte-at c = omega (arith, c .before .before .byte-at .ensures .1)
@@ -52,7 +52,7 @@ loop-again c =
     let w = rw (c .before .byte-at2 .ensures .0) at (c .mark .ensures) in (
       omega arith,
       l .inv .1,
-      with-sound p w (tie-reached p (l .i) (omega arith)) (l .inv .2),
+      with-sound w p (tie-reached p (l .i) (omega arith)) (l .inv .2),
       below-more _ _ (λ k h. with-keeps w _ (l .inv .3 k h)) (w .here),
     )
 

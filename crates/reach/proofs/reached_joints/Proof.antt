@@ -1,58 +1,64 @@
--- `reach::reached_joints` meets its contract. The loop's invariant: what is marked is reached, and every tied joint is marked.
--- The measure is the number of joints not marked, of 32: a pass that changes the count marks at least one more.
+-- `reach::reached_joints` meets its contract. The loop's invariant: the rows of the followed joints are marked, and only reached joints are.
+-- The measure is what the number of the followed joints lacks of 2 ^ 32: it has one bit more at each turn.
 -- Assumes nothing.
-use mathlib.Core.Path.{sym, _∙_}
-use Prim.Native.Nat.{_-_}
+use mathlib.Core.Path.{refl}
+use Prim.Native.Nat.{_-_, _^_}
 use native.Mathlib.Omega.{arith}
 use borrow.Author.Needs.{needs}
-use Rattle.reach.specs.Marking.{Sound, TiesMarked, marked}
-use Rattle.reach.proofs.Marking.{closes, marked-le, marked-more}
+use Rattle.reach.specs.Marking.{Marked}
+use Rattle.reach.proofs.Bits.{xor-some, xor-left}
+use Rattle.reach.proofs.Marking.{Following, follow-begins, follow-goes-on, follow-ends, with-more}
 use Rattle.reach.proofs.reached_joints.Statement.{statement}
 use Rattle.reach.proofs.reached_joints.Tie as tie
 
 abbrev Inv-loop : tie.InvT-loop
-Inv-loop packet marks₀ marks = Sound packet marks × TiesMarked packet marks
+Inv-loop packet to tied marks₀ followed₀ marks followed = Following packet to marks followed
 
 abbrev μ-loop : tie.MeasureT-loop
-μ-loop packet marks₀ marks = 32 - marked marks 32
+μ-loop packet to tied marks₀ followed₀ marks followed = 2 ^ 32 - followed
+
+-- the joint whose row is followed next
+next :
+    (c : tie.After-first-marked Inv-loop μ-loop) →
+    let l = c .before .before .loop in
+    let j = c .first-marked .result in
+    Marked (l .marks) j × (Marked (l .followed) j → ⊥)
+next c =
+    let l = c .before .before .loop in
+    xor-left (l .marks) (l .followed) (c .first-marked .result) (l .inv .inside _) (c .first-marked .ensures .1)
+
+slice-aggregate-note-facts : tie.Need-slice-aggregate-note-facts Inv-loop μ-loop
+slice-aggregate-note-facts c = search needs
+
+note-facts-requires : tie.Need-note-facts-requires Inv-loop μ-loop
+note-facts-requires c κs = (c .before .before .pre, refl)
 
 mark-ties-requires : tie.Need-mark-ties-requires Inv-loop μ-loop
-mark-ties-requires c κs = c .before .pre
+mark-ties-requires c κs = c .before .before .before .before .pre
 
 loop-holds : tie.Need-loop-holds Inv-loop μ-loop
-loop-holds c = c .mark-ties .ensures
+loop-holds c = follow-begins (c .before .before .note-facts .ensures) (c .mark-ties .ensures .0) (c .mark-ties .ensures .1)
 
-mark-facts-requires : tie.Need-mark-facts-requires Inv-loop μ-loop
-mark-facts-requires c κs = c .before .before .before .pre
+first-marked-requires : tie.Need-first-marked-requires Inv-loop μ-loop
+first-marked-requires c κs = xor-some _ _ (c .loop-test .taken)
 
-count-marks-requires : tie.Need-count-marks-requires Inv-loop μ-loop
-count-marks-requires c κs = search needs
+mark-requires : tie.Need-mark-requires Inv-loop μ-loop
+mark-requires c κs = c .first-marked .ensures .0
 
-count-marks-requires-2 : tie.Need-count-marks-requires-2 Inv-loop μ-loop
-count-marks-requires-2 c κs = search needs
+mul-marks : tie.Need-mul-marks Inv-loop μ-loop
+mul-marks c = search needs
 
-returns : tie.Need-returns Inv-loop μ-loop
-returns c =
-    let f = c .before .before .before in
-    let l = f .before .loop in
-    closes (f .before .before .before .before .pre) (l .inv .0) (l .inv .1) (f .mark-facts .ensures)
-    (sym (c .before .before .count-marks .ensures) ∙ c .if1 .taken ∙ c .before .count-marks2 .ensures)
+array-read-marks : tie.Need-array-read-marks Inv-loop μ-loop
+array-read-marks c = search needs
 
 loop-less : tie.Need-loop-less Inv-loop μ-loop
-loop-less c =
-    let f = c .before .before .before in
-    let m = f .before .loop .marks in
-    let r = f .mark-facts .result in
-    let more = marked-more m r (f .mark-facts .ensures .grown .keeps) 32 in
-    let less = marked-le r 32 in
-    omega (arith, c .before .before .count-marks .ensures, c .before .count-marks2 .ensures, c .if1 .left)
+loop-less c = omega (arith, with-more (c .mark .ensures) (next (c .before) .1), c .mark .ensures .bits)
 
 loop-again : tie.Need-loop-again Inv-loop μ-loop
-loop-again c =
-    let f = c .before .before .before in
-    let l = f .before .loop .inv in
-    let g = f .mark-facts .ensures .grown in
-    (g .sound (l .0), λ i h. g .keeps _ (l .1 i h))
+loop-again c = follow-goes-on (c .before .before .before .loop .inv) (next (c .before) .0) (c .mark .ensures)
+
+returns : tie.Need-returns Inv-loop μ-loop
+returns c = follow-ends (c .before .loop .inv) (c .loop-test .left)
 
 pub reached-joints-spec : {M : Type 1} → statement M
 reached-joints-spec =
@@ -60,11 +66,14 @@ reached-joints-spec =
     (tie.spec
     Inv-loop
     μ-loop
+    slice-aggregate-note-facts
+    note-facts-requires
     mark-ties-requires
     loop-holds
-    mark-facts-requires
-    count-marks-requires
-    count-marks-requires-2
-    returns
+    first-marked-requires
+    mark-requires
+    mul-marks
+    array-read-marks
     loop-less
-    loop-again)
+    loop-again
+    returns)

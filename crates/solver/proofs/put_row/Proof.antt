@@ -25,14 +25,14 @@ mul-base c = search needs
 loop-holds : tie.Need-loop-holds Inv-loop μ-loop
 loop-holds c = let A = c .args in (omega arith, refl, rw add-zero (filled-none _ (A .j * 16) _))
 
-array-read-link : tie.Need-array-read-link Inv-loop μ-loop
-array-read-link c = search needs
+array-read-rows : tie.Need-array-read-rows Inv-loop μ-loop
+array-read-rows c = search needs
 
-add-link : tie.Need-add-link Inv-loop μ-loop
-add-link c = search needs
+add-rows : tie.Need-add-rows Inv-loop μ-loop
+add-rows c = search needs
 
-slice-write-link : tie.Need-slice-write-link Inv-loop μ-loop
-slice-write-link c = let L = c .before .loop in omega (arith, L .inv .2 .size)
+slice-write-rows : tie.Need-slice-write-rows Inv-loop μ-loop
+slice-write-rows c = let L = c .before .loop in omega (arith, L .inv .2 .size)
 
 add-l : tie.Need-add-l Inv-loop μ-loop
 add-l c = search needs
@@ -73,9 +73,9 @@ put-row-spec =
     μ-loop
     mul-base
     loop-holds
-    array-read-link
-    add-link
-    slice-write-link
+    array-read-rows
+    add-rows
+    slice-write-rows
     add-l
     loop-less
     loop-again

@@ -25,8 +25,8 @@ loop-holds c = (omega arith, refl, refl, filled-none _ 0 _)
 add-row : tie.Need-add-row Inv-loop μ-loop
 add-row c = search needs
 
-element-copy-out-row : tie.Need-element-copy-out-row Inv-loop μ-loop
-element-copy-out-row c = search needs
+shared-slice-read-row : tie.Need-shared-slice-read-row Inv-loop μ-loop
+shared-slice-read-row c = search needs
 
 array-write-row : tie.Need-array-write-row Inv-loop μ-loop
 array-write-row c = search needs
@@ -54,7 +54,7 @@ row-of-spec =
     mul-base
     loop-holds
     add-row
-    element-copy-out-row
+    shared-slice-read-row
     array-write-row
     add-l
     loop-less

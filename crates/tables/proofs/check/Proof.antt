@@ -1,53 +1,23 @@
--- `tables::check` meets its contract: the parts of the order, each looked at where those before it refuse nothing.
+-- `tables::check` meets its contract: a lawful table passes, and any other is looked at in order.
 -- Assumes nothing.
-use mathlib.Core.Path.{_∙_, sym}
-use Rattle.tables.specs.Check.{entries, singles}
-use Rattle.replies.proofs.Laws.{tested}
-use Rattle.tables.proofs.Scan.{first-of, second-of}
-use Rattle.tables.proofs.Lawfulness.{passes-kept, kept-entries}
+use mathlib.Core.Path.{sym}
+use native.Mathlib.Omega.{arith}
+use Rattle.tables.proofs.Lawfulness.{lawful-passes}
 use borrow.Author.Needs.{needs}
 use Rattle.tables.proofs.check.Statement.{statement}
 use Rattle.tables.proofs.check.Tie as tie
 
-first-entry-requires : tie.Need-first-entry-requires
-first-entry-requires c κs = search needs
-
-is-refusal-requires : tie.Need-is-refusal-requires
-is-refusal-requires c κs = search needs
+lawful-requires : tie.Need-lawful-requires
+lawful-requires c κs = search needs
 
 returns : tie.Need-returns
-returns c = c .before .before .first-entry .ensures ∙ sym (first-of _ _ (entries _) _ (tested (c .before .before .first-entry .ensures) (c .before .is-refusal .ensures) (c .if1 .taken)))
+returns c = sym (lawful-passes _ _ (omega (arith, c .before .before .before .pre .low)) (c .before .lawful .ensures (c .if1 .taken)))
 
-first-single-requires : tie.Need-first-single-requires
-first-single-requires c κs = let p = c .before .before .before .before .pre in
-    (p, kept-entries _ _ .0 (passes-kept _ _ (entries _) (tested (c .before .before .first-entry .ensures) (c .before .is-refusal .ensures) (c .if1 .left))))
-
-is-refusal-requires-2 : tie.Need-is-refusal-requires-2
-is-refusal-requires-2 c κs = search needs
+first-breach-requires : tie.Need-first-breach-requires
+first-breach-requires c κs = search needs
 
 returns-2 : tie.Need-returns-2
-returns-2 c = c .before .before .first-single .ensures
-    ∙ sym (second-of _ _ (entries _) _ (tested (c .before .before .before .before .before .first-entry .ensures) (c .before .before .before .before .is-refusal .ensures) (c .before .before .before .if1 .left))
-    ∙ first-of _ _ (singles _) _ (tested (c .before .before .first-single .ensures) (c .before .is-refusal2 .ensures) (c .if2 .taken)))
-
-first-several-requires : tie.Need-first-several-requires
-first-several-requires c κs = let p = c .before .before .before .before .before .before .before .pre in
-    (p, kept-entries _ _ .0 (passes-kept _ _ (entries _) (tested (c .before .before .before .before .before .first-entry .ensures) (c .before .before .before .before .is-refusal .ensures) (c .before .before .before .if1 .left))))
-
-returns-3 : tie.Need-returns-3
-returns-3 c = c .first-several .ensures
-    ∙ sym (second-of _ _ (entries _) _ (tested (c .before .before .before .before .before .before .first-entry .ensures) (c .before .before .before .before .before .is-refusal .ensures) (c .before .before .before .before .if1 .left))
-    ∙ second-of _ _ (singles _) _ (tested (c .before .before .before .first-single .ensures) (c .before .before .is-refusal2 .ensures) (c .before .if2 .left)))
+returns-2 c = search needs
 
 pub check-spec : {M : Type 1} → statement M
-check-spec =
-    tie.close
-    (tie.spec
-    first-entry-requires
-    is-refusal-requires
-    returns
-    first-single-requires
-    is-refusal-requires-2
-    returns-2
-    first-several-requires
-    returns-3)
+check-spec = tie.close (tie.spec lawful-requires returns first-breach-requires returns-2)

@@ -1,19 +1,12 @@
--- `tables::first_several` meets its contract: nothing is broken where the fast test passes, and else the two parts of the order are looked at.
+-- `tables::first_several` meets its contract: the two parts of the order, the second where the first refuses nothing.
 -- Assumes nothing.
 use mathlib.Core.Path.{_∙_, sym}
 use Rattle.tables.specs.Check.{pairs}
 use Rattle.replies.proofs.Laws.{tested}
 use Rattle.tables.proofs.Scan.{first-of, second-of}
-use Rattle.tables.proofs.Lawfulness.{several-pass}
 use borrow.Author.Needs.{needs}
 use Rattle.tables.proofs.first_several.Statement.{statement}
 use Rattle.tables.proofs.first_several.Tie as tie
-
-embeds-requires : tie.Need-embeds-requires
-embeds-requires c κs = search needs
-
-returns : tie.Need-returns
-returns c = let meet = c .before .embeds .ensures (c .if1 .taken) in sym (several-pass _ _ (meet .0) (meet .1))
 
 first-pair-requires : tie.Need-first-pair-requires
 first-pair-requires c κs = search needs
@@ -21,25 +14,23 @@ first-pair-requires c κs = search needs
 is-refusal-requires : tie.Need-is-refusal-requires
 is-refusal-requires c κs = search needs
 
-returns-2 : tie.Need-returns-2
-returns-2 c = c .before .before .first-pair .ensures
-    ∙ sym (first-of _ _ (pairs _) _ (tested (c .before .before .first-pair .ensures) (c .before .is-refusal .ensures) (c .if2 .taken)))
+returns : tie.Need-returns
+returns c = c .before .before .first-pair .ensures
+    ∙ sym (first-of _ _ (pairs _) _ (tested (c .before .before .first-pair .ensures) (c .before .is-refusal .ensures) (c .if1 .taken)))
 
 first-triple-requires : tie.Need-first-triple-requires
 first-triple-requires c κs = search needs
 
-returns-3 : tie.Need-returns-3
-returns-3 c = c .first-triple .ensures
-    ∙ sym (second-of _ _ (pairs _) _ (tested (c .before .before .before .first-pair .ensures) (c .before .before .is-refusal .ensures) (c .before .if2 .left)))
+returns-2 : tie.Need-returns-2
+returns-2 c = c .first-triple .ensures
+    ∙ sym (second-of _ _ (pairs _) _ (tested (c .before .before .before .first-pair .ensures) (c .before .before .is-refusal .ensures) (c .before .if1 .left)))
 
 pub first-several-spec : {M : Type 1} → statement M
 first-several-spec =
     tie.close
     (tie.spec
-    embeds-requires
-    returns
     first-pair-requires
     is-refusal-requires
-    returns-2
+    returns
     first-triple-requires
-    returns-3)
+    returns-2)

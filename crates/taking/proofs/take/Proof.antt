@@ -26,12 +26,17 @@ same-length c = search needs
 returns : tie.Need-returns
 returns c = refused (tested (c .before .before .refusal .ensures) (c .before .is-refusal .ensures) (c .if1 .taken)) (c .before .before .refusal .ensures) refl
 
+slice-aggregate-solve : tie.Need-slice-aggregate-solve
+slice-aggregate-solve c = search needs
+
 solve-requires : tie.Need-solve-requires
-solve-requires c κs = goes-on (c .before)
+solve-requires c κs = (goes-on (c .before .before), refl)
+
+slice-aggregate-store : tie.Need-slice-aggregate-store
+slice-aggregate-store c = search needs
 
 store-requires : tie.Need-store-requires
-store-requires c κs =
-    taken-good _ _ (goes-on (c .before .before .before .before)) .0 .size
+store-requires c κs = (taken-good _ _ (goes-on (c .before .before .before .before .before .before .before)) .0 .size, search needs)
 
 told-requires : tie.Need-told-requires
 told-requires c κs = search needs
@@ -41,9 +46,8 @@ same-length-2 c = search needs
 
 returns-2 : tie.Need-returns-2
 returns-2 c =
-    let stored = c .before .before .before in
-    let solved = stored .before .before .before in
-    take-ends _ (goes-on (solved .before .before)) (solved .solve .ensures) (stored .store .ensures) (c .told .ensures)
+    let solved = c .before .before .before .before .before .before .before .before in
+    take-ends _ (goes-on (c .before .before .before .before .before .before .before .before .before .before .before)) (solved .solve .ensures) (c .before .before .before .store .ensures) (c .told .ensures)
 
 pub take-spec : {M : Type 1} → statement M
 take-spec =
@@ -53,7 +57,9 @@ take-spec =
     is-refusal-requires
     same-length
     returns
+    slice-aggregate-solve
     solve-requires
+    slice-aggregate-store
     store-requires
     told-requires
     same-length-2

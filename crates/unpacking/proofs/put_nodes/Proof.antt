@@ -3,7 +3,7 @@
 use mathlib.Core.Path.{sym, _∙_}
 use native.Mathlib.Omega.{arith}
 use lib.Seq.{length-take-le}
-use Rattle.unpacking.proofs.Unpacking.{two-runs}
+use Rattle.unpacking.proofs.Unpacking.{copied, then-free}
 use borrow.Author.Needs.{needs}
 use Rattle.unpacking.proofs.put_nodes.Statement.{statement}
 use Rattle.unpacking.proofs.put_nodes.Tie as tie
@@ -42,8 +42,11 @@ returns c =
     let r = c .before .before in
     let y = r .before .before .before .before in
     let s = y .before .before .before .before .before in
-    two-runs (s .args .part .now) (s .args .to .now) _ _ (s .args .old) (s .args .all) _ (s .pre .0) (s .pre .1) (s .pre .2)
-    (y .copy .ensures) (r .repeat .ensures)
+    let to = s .args .to .now in
+    let part = s .args .part .now in
+    let old = s .args .old in
+    let all = s .args .all in
+    then-free _ to _ _ old all _ (copied part to _ old (omega (arith, s .pre .0, s .pre .1)) (s .pre .2) (y .copy .ensures)) (s .pre .0) (s .pre .1) (r .repeat .ensures)
 
 pub put-nodes-spec : {M : Type 1} → statement M
 put-nodes-spec =
