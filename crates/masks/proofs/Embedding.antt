@@ -7,10 +7,10 @@ use mathlib.Core.List.{List}
 use Prim.Native.Nat.{ℕ, _+_, _*_, _/_, _%_, _<_, min}
 use native.Mathlib.Omega.{arith}
 use native.Mathlib.Decide.{decLt}
-use native.Mathlib.Nat.{min-le-left, mod-lt, lt-of-le-of-lt}
-use lib.Arith.{bin-ind, digits-mod}
+use lib.Arith.{bin-ind}
 use lib.Bits.{bitAnd, and-step, and-comm, and-self, and-shr}
 use lib.ListN.{getD}
+use Rattle.runs.proofs.Bits.{and-odd}
 use Rattle.kinds.specs.Kinds.{meetAt}
 use Rattle.kinds.specs.Laws.{Associates, Lawful}
 use Rattle.kinds.specs.Sizes.{AllKinds}
@@ -19,11 +19,6 @@ use Rattle.masks.specs.Masks.{Single, Embedded, Apart}
 
 and-half : (a b : ℕ) → bitAnd a b / 2 ≡ bitAnd (a / 2) (b / 2)
 and-half a b = and-shr a b 1
-
-and-odd : (a b : ℕ) → bitAnd a b % 2 ≡ min (a % 2) (b % 2)
-and-odd a b =
-    ap (λ (x : ℕ). x % 2) (and-step a b)
-    ∙ digits-mod (bitAnd (a / 2) (b / 2)) (lt-of-le-of-lt (min-le-left (a % 2) (b % 2)) (mod-lt a (omega arith)))
 
 min-assoc : (a b c : ℕ) → min (min a b) c ≡ min a (min b c)
 min-assoc a b c = omega arith

@@ -1,24 +1,18 @@
 -- The bits of a number: bit j of `a | b` is the larger one of theirs, bit j of `a ^ b` tells whether theirs differ, and 2 ^ j has the one bit j.
 -- A number other than 0 has a bit where its closing zeros end.
 -- Assumes nothing.
-use mathlib.Core.Path.{_≡_, refl, sym, ap, _∙_, subst}
+use mathlib.Core.Path.{_≡_, refl, sym, ap, _∙_}
 use mathlib.Core.Logic.{_≢_, by-cases}
 use Prim.Native.Nat.{ℕ, zero, suc, _+_, _-_, _*_, _/_, _%_, _^_, _≤_, _<_, max}
 use native.Mathlib.Omega.{arith}
-use native.Mathlib.Nat.{zero-lt-suc, pow-suc, pow-succ', div-one, div-div-eq-div-mul, div-eq-of-lt, mod-lt, mul-mod-left, zero-max, max-zero, max-comm}
+use native.Mathlib.Nat.{pow-suc, pow-succ', div-one, div-div-eq-div-mul, div-eq-of-lt, mul-mod-left, max-zero, max-comm}
 use native.Mathlib.Decide.{ℕ-discrete, decLt}
 use lib.Arith.{digits-mod}
 use lib.Pow.{pow-add, pow-lt, pow-pos, shl-shr}
-use lib.Bits.{bitOr, bitXor, differ, or-step, or-shr, xor-step, xor-shr, or-add-and, xor-add-and, and-le-l, and-le-r}
+use lib.Bits.{bitOr, bitXor, differ, or-shr, xor-step, xor-shr, or-add-and, xor-add-and, and-le-l, and-le-r}
 use lib.Count.{trailingZeros, trailing-le, under}
+use Rattle.runs.proofs.Bits.{below-two, or-odd}
 use Rattle.reach.specs.Marking.{bit, Marked}
-
-max-digit : (x y : ℕ) → x < 2 → y < 2 → max x y < 2
-max-digit zero y h l = subst (λ (z : ℕ). z < 2) (sym (zero-max y)) l
-max-digit (suc zero) zero h l = omega arith
-max-digit (suc zero) (suc zero) h l = omega arith
-max-digit (suc zero) (suc (suc y)) h l = absurd (omega arith)
-max-digit (suc (suc x)) y h l = absurd (omega arith)
 
 differ-digit : (x y : ℕ) → x < 2 → y < 2 → differ x y < 2
 differ-digit zero y h l = l
@@ -26,15 +20,8 @@ differ-digit (suc x) zero h l = h
 differ-digit (suc zero) (suc y) h l = omega arith
 differ-digit (suc (suc x)) (suc y) h l = absurd (omega arith)
 
-below-two : (a : ℕ) → a % 2 < 2
-below-two a = mod-lt a (zero-lt-suc 1)
-
 pub or-bit : (a b j : ℕ) → bit (bitOr a b) j ≡ max (bit a j) (bit b j)
-or-bit a b j =
-    let x = a / 2 ^ j in
-    let y = b / 2 ^ j in
-    ap (λ (z : ℕ). z % 2) (or-shr a b j ∙ or-step x y)
-    ∙ digits-mod (bitOr (x / 2) (y / 2)) (max-digit (x % 2) (y % 2) (below-two x) (below-two y))
+or-bit a b j = ap (λ (z : ℕ). z % 2) (or-shr a b j) ∙ or-odd (a / 2 ^ j) (b / 2 ^ j)
 
 pub xor-bit : (a b j : ℕ) → bit (bitXor a b) j ≡ differ (bit a j) (bit b j)
 xor-bit a b j =

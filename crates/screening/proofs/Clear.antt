@@ -8,29 +8,20 @@ use mathlib.Core.List.{List}
 use Prim.Native.Nat.{ℕ, _+_, _-_, _*_, _/_, _%_, _^_, _≤_, _<_, min, max}
 use native.Mathlib.Omega.{arith}
 use native.Mathlib.Decide.{ℕ-discrete, decLt}
-use native.Mathlib.Nat.{mod-lt}
-use lib.Arith.{bin-ind, digits-mod}
+use lib.Arith.{bin-ind}
 use lib.Bits.{bitAnd, bitOr, and-step, or-step, and-shr, or-shr, and-block, and-self, and-le-l, or-add-and, or-disjoint, or-zero-r}
 use lib.Dec.{eqb, ltb}
 use borrow.Author.Count.{below-none, below-more}
 use borrow.Author.Tests.{eq-eqb, ne-eqb, lt-ltb}
 use Rattle.replies.specs.declared.Reply.the-variants.{Done}
 use Rattle.runs.proofs.Loops.{or-none}
+use Rattle.runs.proofs.Bits.{and-odd, or-odd}
 use Rattle.packets.specs.Packet.{byte, joints, factAt, factCount}
 use Rattle.screening.specs.Screening.{factFits, firstBadFact}
 use Rattle.screening.specs.Words.{fourBytes, highBits, limitsFor, gathered, Word, Limits, Clear}
 use Rattle.screening.proofs.Converse.{both-true, all-fit-from}
 
 -- `&` of an `|` is the `|` of the two `&`
-odd : (a : ℕ) → a % 2 < 2
-odd a = mod-lt a (omega arith)
-
-and-odd : (a b : ℕ) → bitAnd a b % 2 ≡ min (a % 2) (b % 2)
-and-odd a b = ap (λ (x : ℕ). x % 2) (and-step a b) ∙ digits-mod (bitAnd (a / 2) (b / 2)) (omega (arith, odd a))
-
-or-odd : (a b : ℕ) → bitOr a b % 2 ≡ max (a % 2) (b % 2)
-or-odd a b = ap (λ (x : ℕ). x % 2) (or-step a b) ∙ digits-mod (bitOr (a / 2) (b / 2)) (omega (arith, odd a, odd b))
-
 min-max : (a b c : ℕ) → min (max a b) c ≡ max (min a c) (min b c)
 min-max a b c = omega arith
 

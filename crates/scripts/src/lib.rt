@@ -5,6 +5,7 @@
 // output.
 ghost use mathlib.Core.Path.{_≡_};
 ghost use Prim.Native.Nat.{_<_};
+ghost use Rattle.scripts.specs.Rooms.{byteAt, withByte, numberAt, insideOf, putBytes, flatEntry, flatTable, tableAfter, summed, sumOf};
 
 // Room for a table, an output or the bytes of a call, or for a block with one byte and a number behind it.
 pub type Room = [u8; 5253];
@@ -26,7 +27,7 @@ pub fn write_number(x: u64) {
 
 // A size or an offset that lies inside a room.
 pub fn inside(size: usize) -> usize
-    ensures { λ r. ⌜ r < 5253 ⌝ }
+    ensures { λ r. ⌜ (r ≡ insideOf size) × (r < 5253) ⌝ }
 {
     if 5252 < size {
         write_letter(b'?');
@@ -43,12 +44,14 @@ fn wide(x: u8) -> usize
 
 // The byte at a place; behind the last one the first.
 fn byte(room: Room, at: usize) -> usize
-    ensures { λ r. ⌜ r < 256 ⌝ }
+    ensures { λ r. ⌜ (r ≡ byteAt room at) × (r < 256) ⌝ }
 {
     wide(room[at % 5253])
 }
 
-fn set(room: Room, at: usize, x: usize) -> Room {
+fn set(room: Room, at: usize, x: usize) -> Room
+    ensures { λ r. ⌜ r ≡ withByte room at x ⌝ }
+{
     let mut next = room;
     next[at % 5253] = (x % 256) as u8;
     next
@@ -57,13 +60,15 @@ fn set(room: Room, at: usize, x: usize) -> Room {
 // The number of two bytes at a place.
 pub fn number(room: Room, at: usize) -> usize
     requires { ⌜ at < 65536 ⌝ }
-    ensures { λ r. ⌜ r < 65536 ⌝ }
+    ensures { λ r. ⌜ (r ≡ numberAt room at) × (r < 65536) ⌝ }
 {
     256 * byte(room, at) + byte(room, at + 1)
 }
 
 // The room with the bytes of a call in it: an offset, and what stands there.
-pub fn put(room: Room, bytes: Bytes) -> Room {
+pub fn put(room: Room, bytes: Bytes) -> Room
+    ensures { λ r. ⌜ r ≡ putBytes room bytes ⌝ }
+{
     let from = bytes.room;
     let mut next = room;
     for i in 2..inside(bytes.size) {
@@ -75,7 +80,9 @@ pub fn put(room: Room, bytes: Bytes) -> Room {
 }
 
 // An entry of the flat table of n kinds: beside 0, which is under all, and 1, which is above all, no kind is under another.
-fn flat_entry(p: usize, n: usize) -> usize {
+fn flat_entry(p: usize, n: usize) -> usize
+    ensures { λ r. ⌜ r ≡ flatEntry p n ⌝ }
+{
     if n == 0 {
         return 0;
     }
@@ -93,7 +100,9 @@ fn flat_entry(p: usize, n: usize) -> usize {
     0
 }
 
-fn flat_table(n: usize) -> Room {
+fn flat_table(n: usize) -> Room
+    ensures { λ r. ⌜ r ≡ flatTable n ⌝ }
+{
     let mut table = [0u8; 5253];
     for p in 0..5253 {
         table[p] = (flat_entry(p, n) % 256) as u8;
@@ -102,7 +111,9 @@ fn flat_table(n: usize) -> Room {
 }
 
 // The table after a call: `k`, the flat table of so many kinds; `e`, bytes put into the table.
-pub fn next_table(letter: u8, table: Room, bytes: Bytes) -> Room {
+pub fn next_table(letter: u8, table: Room, bytes: Bytes) -> Room
+    ensures { λ r. ⌜ r ≡ tableAfter letter table bytes ⌝ }
+{
     let room = bytes.room;
     match letter {
         b'k' => flat_table(number(room, 0)),
@@ -224,6 +235,7 @@ fn write_digit(x: usize)
 // The sum with one more byte, which is written where it is to be shown.
 fn with_byte(sum: usize, x: usize, shown: bool) -> usize
     requires { ⌜ x < 256 ⌝ }
+    ensures { λ r. ⌜ r ≡ summed sum x ⌝ }
 {
     if shown {
         write_letter(b' ');
@@ -234,7 +246,9 @@ fn with_byte(sum: usize, x: usize, shown: bool) -> usize
 }
 
 // A sum by which so many bytes of a room and their places tell; the bytes are written too where they are to be shown.
-pub fn sum(room: Room, size: usize, shown: bool) -> usize {
+pub fn sum(room: Room, size: usize, shown: bool) -> usize
+    ensures { λ r. ⌜ r ≡ sumOf room size ⌝ }
+{
     let mut sum = 0;
     for i in 0..size {
         sum = with_byte(sum, byte(room, i), shown);
