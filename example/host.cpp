@@ -1,5 +1,5 @@
-// An example host: takes one packet of facts about a rig with the house kinds and four joints, asks three rules, and
-// writes the solved form. It ends with 1 if a call is refused.
+// An example host: takes one packet of facts about a rig with the house kinds and four joints, asks three rules, shows
+// what is known of each joint, and writes the solved form. It ends with 1 if a call is refused.
 #include <array>
 #include <cstddef>
 #include <cstdint>
@@ -10,57 +10,54 @@
 namespace {
 
 using vornulica::Answer;
-using vornulica::Bytes;
+using vornulica::FactsPacket;
+using vornulica::HouseKind;
+using vornulica::RigJoint;
+using vornulica::RuleJoint;
+using vornulica::RulePacket;
 using vornulica::Session;
 using vornulica::Verdict;
 
-constexpr std::uint64_t joints = 4;
+constexpr std::size_t joints = 4;
 
-// A line for the head of a packet, for each tie and for each fact.
-// clang-format off
+// Six facts about the rig. Link 1 of joint 0 leads to joint 1 and to joint 2: so these two are one.
+FactsPacket<6> arm_facts()
+{
+    FactsPacket<6> facts(joints);
+    facts.kind(RigJoint(0), HouseKind::arm_part)
+        .kind(RigJoint(0), HouseKind::left)
+        .link(RigJoint(0), 1, RigJoint(1))
+        .link(RigJoint(0), 1, RigJoint(2))
+        .kind(RigJoint(1), HouseKind::forearm)
+        .kind(RigJoint(2), HouseKind::left);
+    return facts;
+}
 
-constexpr std::uint8_t facts[] = {
-    0x00, 0x1c, 1, 1, 0, joints, // 28 bytes, version 1, facts, no ties
-    1, 0, 9, 0,                  // joint 0 is an arm part
-    1, 0, 2, 0,                  // joint 0 is left
-    3, 0, 1, 1,                  // link 1 of joint 0 leads to joint 1
-    3, 0, 1, 2,                  // link 1 of joint 0 leads to joint 2, so joints 1 and 2 are one
-    1, 1, 16, 0,                 // joint 1 is a forearm
-    1, 2, 2, 0,                  // joint 2 is left
-};
+// A rule of two joints of its own: an arm part whose link 1 leads to a joint of that side. Its joint 0 is tied to rig
+// joint 0.
+RulePacket<3, 1> arm_to(HouseKind side)
+{
+    RulePacket<3, 1> rule(2);
+    rule.tie(RuleJoint(0), RigJoint(0))
+        .kind(RuleJoint(0), HouseKind::arm_part)
+        .link(RuleJoint(0), 1, RuleJoint(1))
+        .kind(RuleJoint(1), side);
+    return rule;
+}
 
-// The rules tie their own joint 0 to rig joint 0.
-
-constexpr std::uint8_t arm_to_left[] = {
-    0x00, 0x12, 1, 2, 1, 2, // 18 bytes, version 1, a rule, one tie, two joints
-    0, 0,
-    1, 0, 9, 0,             // its joint 0 is an arm part
-    3, 0, 1, 1,             // link 1 of its joint 0 leads to its joint 1
-    1, 1, 2, 0,             // its joint 1 is left
-};
-
-constexpr std::uint8_t arm_to_right[] = {
-    0x00, 0x12, 1, 2, 1, 2,
-    0, 0,
-    1, 0, 9, 0,
-    3, 0, 1, 1,
-    1, 1, 3, 0, // its joint 1 is right
-};
-
-constexpr std::uint8_t left_upper_arm[] = {
-    0x00, 0x0a, 1, 2, 1, 1,
-    0, 0,
-    1, 0, 21, 0, // its joint 0 is a left upper arm
-};
-
-// clang-format on
+RulePacket<1, 1> left_upper_arm()
+{
+    RulePacket<1, 1> rule(1);
+    rule.tie(RuleJoint(0), RigJoint(0)).kind(RuleJoint(0), HouseKind::left_upper_arm);
+    return rule;
+}
 
 // Whether the call is done; a refusal is told.
 bool is_done(const char* call, const Answer& answer)
 {
     if (!answer.done())
-        std::printf("%s: refused with %u, place %u\n", call, static_cast<unsigned>(answer.reply),
-                    static_cast<unsigned>(answer.place));
+        std::printf("%s: refused with %u, place %u: %s\n", call, static_cast<unsigned>(answer.reply),
+                    static_cast<unsigned>(answer.place), vornulica::reply_text(answer.reply));
     return answer.done();
 }
 
@@ -77,12 +74,26 @@ const char* meaning_of(Verdict verdict)
     return "has a verdict that this host does not know";
 }
 
-bool ask(const Session& session, const char* rule, Bytes packet)
+bool tell_verdict(const char* rule, const vornulica::AskAnswer& answer)
 {
-    const auto answer = session.ask(packet);
     if (const auto verdict = answer.verdict())
         std::printf("The rule '%s' %s.\n", rule, meaning_of(*verdict));
     return is_done(rule, answer);
+}
+
+void show_joint(const Session& session, RigJoint joint)
+{
+    const auto known = session.read().joint(joint);
+    if (!known)
+        return;
+    std::printf("Joint %u", static_cast<unsigned>(joint.number()));
+    if (known->smallest() != joint)
+        std::printf(", one with joint %u", static_cast<unsigned>(known->smallest().number()));
+    std::printf(": kind %u", static_cast<unsigned>(known->kind()));
+    for (std::size_t link = 0; link < RIG_LINKS; link++)
+        if (const auto target = known->link(link))
+            std::printf(", link %zu leads to joint %u", link, static_cast<unsigned>(target->number()));
+    std::printf(".\n");
 }
 
 bool write_solved_form(const Session& session)
@@ -103,13 +114,17 @@ bool run()
     Session session;
     if (!is_done("open", session.open(vornulica::house_kinds, joints, vornulica::house_table())))
         return false;
-    const auto taken = session.take(facts);
+    const auto taken = session.take(arm_facts());
     if (!is_done("take", taken))
         return false;
     std::printf("The facts are taken. Joins: %u.\n", static_cast<unsigned>(taken.joins()));
-    return ask(session, "an arm part whose link 1 leads to a left joint", arm_to_left) &&
-           ask(session, "an arm part whose link 1 leads to a right joint", arm_to_right) &&
-           ask(session, "a left upper arm", left_upper_arm) && write_solved_form(session);
+    if (!tell_verdict("an arm part whose link 1 leads to a left joint", session.ask(arm_to(HouseKind::left))) ||
+        !tell_verdict("an arm part whose link 1 leads to a right joint", session.ask(arm_to(HouseKind::right))) ||
+        !tell_verdict("a left upper arm", session.ask(left_upper_arm())))
+        return false;
+    for (std::size_t joint = 0; joint < joints; joint++)
+        show_joint(session, RigJoint(joint));
+    return write_solved_form(session);
 }
 
 } // namespace

@@ -13,19 +13,43 @@
  * - The host keeps buffers separate: none that a call may write overlaps another lent to that call.
  * - Nothing is allocated, and nothing is kept between calls outside the lent buffers. So calls may run
  *   side by side, as long as none writes a buffer that another one uses.
+ *
+ * The five calls are proved. What stands here beside them (the inline functions, the numbers and the names) is code
+ * outside the proof, held against the calls by tests.
+ *
+ * vornulica_packets.h builds and reads packets, vornulica_blocks.h reads a block; vornulica.hpp is all of it for C++.
+ *
+ * What kinds, facts, rules and verdicts mean is told from nothing in docs/RULES.md, and what holds from one version of
+ * the library to the next in README.md under "Between versions".
  */
 #ifndef VORNULICA_H
 #define VORNULICA_H
 
+#include <stdbool.h>
 #include <stddef.h>
 #include <stdint.h>
+
+/* An answer that is thrown away may have been a refusal: compilers that can, warn of it. */
+#if defined(__cplusplus) && __cplusplus >= 201703L
+#define RIG_NODISCARD [[nodiscard]]
+#elif defined(__STDC_VERSION__) && __STDC_VERSION__ >= 202311L
+#define RIG_NODISCARD [[nodiscard]]
+#elif defined(__GNUC__)
+#define RIG_NODISCARD __attribute__((warn_unused_result))
+#else
+#define RIG_NODISCARD
+#endif
+
+/* A conversion in the form of the language that reads it. */
+#ifdef __cplusplus
+#define RIG_AS(type, value) static_cast<type>(value)
+#else
+#define RIG_AS(type, value) ((type)(value))
+#endif
 
 #ifdef __cplusplus
 extern "C" {
 #endif
-
-/* The session block. It has no pointers in it: it may be stored, copied and compared as bytes. */
-#define RIG_BLOCK_SIZE 5250
 
 /* Limits. Kinds are numbered from 0 ("none"), 1 is "any"; joints and links are numbered from 0. */
 #define RIG_MIN_KINDS 2
@@ -39,9 +63,64 @@ extern "C" {
 #define RIG_LINKS 16
 #define RIG_MAX_FACTS 1088
 
-/* The house kinds and their meet table, meet(i,j) at i x 33 + j. */
+/*
+ * The session block. It has no pointers in it: it may be stored, copied and compared as bytes. Where things lie in it:
+ *   byte 0      the number of kinds, n
+ *   byte 1      the number of joints, v
+ *   from 2      the class number of each joint: joints known to be one form a class, numbered by its smallest joint
+ *   from 66     the kind of each joint that is the smallest of its class; 1 if none is known
+ *   from 130    a row of 16 links for each of these: class numbers, or 255 for a link that is not known
+ *   from 1,154  the kind table
+ * There is room for 64 joints and 64 x 64 entries; bytes that are not used are 0. vornulica_blocks.h reads this.
+ */
+#define RIG_BLOCK_SIZE 5250
+#define RIG_KIND_COUNT_AT 0
+#define RIG_JOINT_COUNT_AT 1
+#define RIG_CLASSES_AT 2
+#define RIG_KINDS_AT 66
+#define RIG_LINKS_AT 130
+#define RIG_TABLE_AT 1154
+#define RIG_NOT_KNOWN 255
+
+/* The house kinds and their meet table, meet(i,j) at i x 33 + j. docs/KINDS.md has them with their parents. */
 #define RIG_HOUSE_KINDS 33
 #define RIG_HOUSE_TABLE_SIZE (RIG_HOUSE_KINDS * RIG_HOUSE_KINDS)
+
+enum rig_house_kind {
+    RIG_KIND_NONE = 0,
+    RIG_KIND_ANY = 1,
+    RIG_KIND_LEFT = 2,
+    RIG_KIND_RIGHT = 3,
+    RIG_KIND_CENTRE = 4,
+    RIG_KIND_SPINE = 5,
+    RIG_KIND_NECK = 6,
+    RIG_KIND_HEAD = 7,
+    RIG_KIND_HIPS = 8,
+    RIG_KIND_ARM_PART = 9,
+    RIG_KIND_LEG_PART = 10,
+    RIG_KIND_LEFT_ARM = 11,
+    RIG_KIND_RIGHT_ARM = 12,
+    RIG_KIND_LEFT_LEG = 13,
+    RIG_KIND_RIGHT_LEG = 14,
+    RIG_KIND_UPPER_ARM = 15,
+    RIG_KIND_FOREARM = 16,
+    RIG_KIND_HAND = 17,
+    RIG_KIND_THIGH = 18,
+    RIG_KIND_SHIN = 19,
+    RIG_KIND_FOOT = 20,
+    RIG_KIND_LEFT_UPPER_ARM = 21,
+    RIG_KIND_RIGHT_UPPER_ARM = 22,
+    RIG_KIND_LEFT_FOREARM = 23,
+    RIG_KIND_RIGHT_FOREARM = 24,
+    RIG_KIND_LEFT_HAND = 25,
+    RIG_KIND_RIGHT_HAND = 26,
+    RIG_KIND_LEFT_THIGH = 27,
+    RIG_KIND_RIGHT_THIGH = 28,
+    RIG_KIND_LEFT_SHIN = 29,
+    RIG_KIND_RIGHT_SHIN = 30,
+    RIG_KIND_LEFT_FOOT = 31,
+    RIG_KIND_RIGHT_FOOT = 32
+};
 
 /*
  * A packet:
@@ -55,12 +134,28 @@ extern "C" {
  *     1, a, kind, 0   joint a has the kind
  *     2, a, b, 0      joints a and b are one
  *     3, a, link, c   the link of joint a leads to joint c
- * A joint of a fact is a rig joint in facts, and one of the rule's own joints in a rule.
+ * A joint of a fact is a rig joint in facts, and one of the rule's own joints in a rule. vornulica_packets.h builds and
+ * reads packets.
  */
+#define RIG_PACKET_VERSION 1
+#define RIG_HEAD_SIZE 6
+#define RIG_TIE_SIZE 2
+#define RIG_FACT_SIZE 4
+
+enum rig_purpose {
+    RIG_FACTS = 1,
+    RIG_RULE = 2,
+};
+
+enum rig_tag {
+    RIG_HAS_KIND = 1,
+    RIG_IS_ONE_WITH = 2,
+    RIG_LINK_LEADS = 3,
+};
 
 /* The longest packet of each purpose. A solved form is never longer than the longest packet of facts. */
-#define RIG_MAX_FACTS_SIZE (6 + 4 * RIG_MAX_FACTS)
-#define RIG_MAX_RULE_SIZE (6 + 2 * RIG_MAX_TIES + 4 * RIG_MAX_FACTS)
+#define RIG_MAX_FACTS_SIZE (RIG_HEAD_SIZE + RIG_FACT_SIZE * RIG_MAX_FACTS)
+#define RIG_MAX_RULE_SIZE (RIG_HEAD_SIZE + RIG_TIE_SIZE * RIG_MAX_TIES + RIG_FACT_SIZE * RIG_MAX_FACTS)
 
 /*
  * The number of a reply. All but RIG_DONE are refusals.
@@ -111,13 +206,51 @@ enum rig_verdict {
 /* Every call answers with one number: number + 256 x third + 2^32 x place. These split it. */
 
 /* The reply's number, of enum rig_reply. */
-static inline uint8_t rig_number(uint64_t answer) { return answer & 0xff; }
+RIG_NODISCARD static inline uint8_t rig_number(uint64_t answer) { return RIG_AS(uint8_t, answer & 0xff); }
 
 /* The third number: what it counts stands at each call. 0 for every refusal. */
-static inline uint32_t rig_third(uint64_t answer) { return (answer >> 8) & 0xffffff; }
+RIG_NODISCARD static inline uint32_t rig_third(uint64_t answer) { return RIG_AS(uint32_t, answer >> 8 & 0xffffff); }
 
 /* Where the reply points to, as told in enum rig_reply. */
-static inline uint32_t rig_place(uint64_t answer) { return (uint32_t)(answer >> 32); }
+RIG_NODISCARD static inline uint32_t rig_place(uint64_t answer) { return RIG_AS(uint32_t, answer >> 32); }
+
+/* Whether the call is done. An answer is not to be compared with RIG_DONE: it also holds the third number. */
+RIG_NODISCARD static inline bool rig_is_done(uint64_t answer) { return rig_number(answer) == RIG_DONE; }
+
+/* What a reply's number says, for people. A number that this header does not know has a text too. */
+RIG_NODISCARD static inline const char* rig_reply_text(unsigned number)
+{
+    switch (number) {
+    case RIG_DONE:
+        return "done";
+    case RIG_BAD_SIZE:
+        return "the number of kinds or of joints is out of range, or a table or block has not its size";
+    case RIG_NO_KIND:
+        return "an entry of the kind table is no kind";
+    case RIG_LAW_BROKEN:
+        return "the kind table breaks a law of meets";
+    case RIG_BAD_BLOCK:
+        return "the block is not well formed, or was never opened";
+    case RIG_BAD_LENGTH:
+        return "the packet has under 6 bytes, or not the length that it states";
+    case RIG_BAD_VERSION:
+        return "the packet's version is not 1";
+    case RIG_BAD_HEADER:
+        return "the packet's purpose, ties or joint count do not suit the call";
+    case RIG_BAD_COUNT:
+        return "no number of facts from 0 to 1,088 fits the packet's length";
+    case RIG_BAD_PART:
+        return "a tie or fact has an unknown tag, a number out of range or an unused byte that is not 0";
+    case RIG_NOT_REACHED:
+        return "a joint of the rule is not reached from its ties";
+    case RIG_CLASH:
+        return "the facts clash: no rig satisfies them together with those already taken";
+    case RIG_SHORT_OUTPUT:
+        return "the output is shorter than the solved form";
+    default:
+        return "a refusal that this header does not know";
+    }
+}
 
 /*
  * Opens a session of v joints, with the meet table of n kinds: meet(i,j) at i x n + j.
@@ -133,7 +266,8 @@ static inline uint32_t rig_place(uint64_t answer) { return (uint32_t)(answer >> 
  *                   with meet(meet(i,j),k) not meet(i,meet(j,k))
  * A refused call changes no byte of the block.
  */
-uint64_t rig_open(uint64_t n, uint64_t v, const uint8_t* table, size_t table_size, uint8_t* block, size_t block_size);
+RIG_NODISCARD uint64_t rig_open(uint64_t n, uint64_t v, const uint8_t* table, size_t table_size, uint8_t* block,
+                                size_t block_size);
 
 /*
  * Takes a packet of facts into the session: all of its facts, or none.
@@ -151,7 +285,7 @@ uint64_t rig_open(uint64_t n, uint64_t v, const uint8_t* table, size_t table_siz
  *   RIG_CLASH       place 0; a fact of kind 0 always clashes
  * A refused call changes no byte of the block.
  */
-uint64_t rig_take(uint8_t* block, size_t block_size, const uint8_t* packet, size_t packet_size);
+RIG_NODISCARD uint64_t rig_take(uint8_t* block, size_t block_size, const uint8_t* packet, size_t packet_size);
 
 /*
  * Asks a rule of the session.
@@ -169,7 +303,7 @@ uint64_t rig_take(uint8_t* block, size_t block_size, const uint8_t* packet, size
  *   RIG_NOT_REACHED the smallest rule joint that is not reached
  * Changes no byte, done or refused.
  */
-uint64_t rig_ask(const uint8_t* block, size_t block_size, const uint8_t* packet, size_t packet_size);
+RIG_NODISCARD uint64_t rig_ask(const uint8_t* block, size_t block_size, const uint8_t* packet, size_t packet_size);
 
 /*
  * Writes the solved form: a packet of facts that gives a fresh session with the same table and joint
@@ -183,7 +317,7 @@ uint64_t rig_ask(const uint8_t* block, size_t block_size, const uint8_t* packet,
  *   RIG_SHORT_OUTPUT place 0
  * A refused call changes no byte of out.
  */
-uint64_t rig_write(const uint8_t* block, size_t block_size, uint8_t* out, size_t out_size);
+RIG_NODISCARD uint64_t rig_write(const uint8_t* block, size_t block_size, uint8_t* out, size_t out_size);
 
 /*
  * Writes the meet table of the house kinds, to open sessions with.
@@ -194,7 +328,17 @@ uint64_t rig_write(const uint8_t* block, size_t block_size, uint8_t* out, size_t
  *   RIG_BAD_SIZE  table_size not 1,089
  * A refused call changes no byte of the table.
  */
-uint64_t rig_house(uint8_t* table, size_t table_size);
+RIG_NODISCARD uint64_t rig_house(uint8_t* table, size_t table_size);
+
+/*
+ * Whether these are the bytes of a good block: one that the other calls take. For a block that was stored and read
+ * back, say. Writes nothing.
+ */
+RIG_NODISCARD static inline bool rig_block_is_good(const uint8_t* block, size_t block_size)
+{
+    /* The block is judged before the packet, which is empty here and gets this reply from every good block. */
+    return rig_number(rig_ask(block, block_size, block, 0)) == RIG_BAD_LENGTH;
+}
 
 #ifdef __cplusplus
 }

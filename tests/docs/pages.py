@@ -12,7 +12,7 @@
    and several paths, with commas and linking words between them.
 4. In a table: under the heading "folder" one that is not there; under "crate" no crate; under "run" a name in quotes
    that no line of a program's stored output begins with; under a heading that ends with "in FOLDER" the name of no file
-   of that folder.
+   of that folder; under one that ends with "printed for NAME.hex" anything but the lines of NAME.out, all and in order.
 5. An edit that must fail and that docs/PROMISES.md names neither itself nor by its folder; a file of specs/ that it
    does not name. A specs/Lib.antt that only lists the others needs no naming.
 6. A word of tests/docs/words.txt that has no reason, or that no page says.
@@ -123,6 +123,7 @@ class Page:
         self.complaints = []  # of line and text
         self.named = set()  # files and folders
         self.said = set()  # names
+        self.printed = {}  # a file of stored output: the cells that show it, each with its offset
         for link in LINK.finditer(self.text):
             self._check_link(link)
         # What a link shows is read as text; where it leads was looked at. A fenced piece of code has no names in
@@ -132,6 +133,8 @@ class Page:
         for start, end, heading in units(plain):
             self._check_heading(start, plain[start:end].strip(), heading)
             self._check_tokens(tokens_of(plain, start, end))
+        for stored, cells in self.printed.items():
+            self._check_printed(stored, cells)
 
     def _complain(self, at, message):
         line = self.text.count("\n", 0, at) + 1
@@ -148,6 +151,7 @@ class Page:
             return
         items = [item.strip() for item in cell.split(",")]
         folder = re.search(r"\bin (\S+/\S+)$", heading)
+        run = re.search(r"\bprinted for (\S+)\.hex$", heading)
         if heading == "folder":
             for item in items:
                 if not any(self.project.is_folder(path) for path in self.project.matching(item)):
@@ -164,6 +168,16 @@ class Page:
             for item in items:
                 if not self.project.matching(f"{folder.group(1)}/{item.strip('`')}.*"):
                     self._complain(at, f"no file of {folder.group(1)} is called {item}")
+        elif run:
+            self.printed.setdefault(f"{run.group(1)}.out", []).append((at, cell.strip("`")))
+
+    def _check_printed(self, stored, cells):
+        lines = self.project.text(stored).splitlines() if self.project.exists(stored) else []
+        for number, (at, cell) in enumerate(cells, 1):
+            if lines[number - 1 : number] != [cell]:
+                self._complain(at, f"`{cell}` is not line {number} of {stored}")
+        if len(lines) > len(cells):
+            self._complain(cells[-1][0], f"{stored} goes on with `{lines[len(cells)]}`")
 
     def _check_tokens(self, tokens):
         folder = None  # that of the last path

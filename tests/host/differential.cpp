@@ -26,8 +26,10 @@ using paper::Fault;
 
 constexpr size_t most_differences_shown = 5;
 
+// Sessions go by the two headers in turn.
 bool library_agrees(std::uint64_t seed, Side& tried, Side& plain, Coverage& coverage, size_t& calls_made, bool describe)
 {
+    tried.use(seed % 2 == 0 ? library_by_c : library_by_cpp);
     return walk_session(seed, plain, [&](const std::string& where, const Call& call) {
         calls_made++;
         const bool agreed = agree(where, call, tried, plain);
@@ -62,7 +64,8 @@ bool compare_with_library(size_t calls_wanted)
     watch::now_at("the examples");
     for (const auto& [name, calls] :
          {std::pair<const char*, const paper::Calls*>{"the plain version", &paper::calls(Fault::none)},
-          {"the library", &library}}) {
+          {"the library by vornulica.h", &library_by_c},
+          {"the library by vornulica.hpp", &library_by_cpp}}) {
         const std::string failing = Examples::failing(*calls);
         if (!failing.empty()) {
             std::printf("examples that %s gives otherwise: %s\n", name, failing.c_str());
@@ -71,13 +74,13 @@ bool compare_with_library(size_t calls_wanted)
     }
     watch::now_at("the meaning");
     const std::string off_meaning =
-        Meaning::failing(library, std::min(meaning_sessions, calls_wanted / calls_to_a_meaning_session));
+        Meaning::failing(library_by_c, std::min(meaning_sessions, calls_wanted / calls_to_a_meaning_session));
     if (!off_meaning.empty()) {
         std::printf("%s\n", off_meaning.c_str());
         good = false;
     }
 
-    Side tried(library);
+    Side tried(library_by_c);
     Side plain(paper::calls(Fault::none));
     Coverage coverage;
     size_t swept_calls = 0;
@@ -92,7 +95,7 @@ bool compare_with_library(size_t calls_wanted)
     std::uint64_t rounds = 0;
     for (; demand3_calls < calls_wanted / 2 && differing < most_differences_shown; rounds++) {
         watch::now_at("demand 3, round " + std::to_string(rounds));
-        const std::string problem = Demand3::failing(library, rounds, demand3_calls);
+        const std::string problem = Demand3::failing(library_by_c, rounds, demand3_calls);
         if (!problem.empty()) {
             std::printf("%s\n", problem.c_str());
             differing++;
@@ -112,7 +115,7 @@ bool compare_with_library(size_t calls_wanted)
 
 bool show_session(std::uint64_t number)
 {
-    Side tried(library);
+    Side tried(library_by_c);
     Side plain(paper::calls(Fault::none));
     Coverage coverage;
     size_t calls_made = 0;

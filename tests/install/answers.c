@@ -1,0 +1,58 @@
+#include "answers.h"
+
+#include <string.h>
+
+#include <vornulica.h>
+
+/* Every number below stands in 01, under "Examples". The host's number: number + 256 x third + 2^32 x place. */
+#define ANSWER(number, third, place) ((uint64_t)(number) + 256 * (uint64_t)(third) + ((uint64_t)(place) << 32))
+
+/* clang-format off */
+
+/* F. */
+static const uint8_t facts[] = {
+    0, 28, 1, 1, 0, 4,
+    1, 0, 9, 0,  1, 0, 2, 0,  3, 0, 1, 1,  3, 0, 1, 2,  1, 1, 16, 0,  1, 2, 2, 0,
+};
+
+/* Of P12: joint 2 has kind 3. */
+static const uint8_t clashing_fact[] = {0, 8, 1, 1, 0, 4,  1, 2, 3, 0};
+
+/* Of P6, P7 and P8: rule joint 0 is tied to rig joint 0. */
+static const uint8_t applying_rule[] = {0, 18, 1, 2, 1, 2,  0, 0,  1, 0, 9, 0,  3, 0, 1, 1,  1, 1, 2, 0};
+static const uint8_t ruled_out_rule[] = {0, 18, 1, 2, 1, 2,  0, 0,  1, 0, 9, 0,  3, 0, 1, 1,  1, 1, 3, 0};
+static const uint8_t waiting_rule[] = {0, 10, 1, 2, 1, 1,  0, 0,  1, 0, 21, 0};
+
+/* Two rule joints, no facts, joint 0 tied. */
+static const uint8_t unreached_rule[] = {0, 6, 1, 2, 1, 2,  0, 0};
+
+/* P5. */
+static const uint8_t solved_form[] = {
+    0x00, 0x14, 0x01, 0x01, 0x00, 0x04,
+    0x01, 0x00, 0x0b, 0x00,  0x03, 0x00, 0x01, 0x01,  0x01, 0x01, 0x17, 0x00,  0x02, 0x02, 0x01, 0x00,
+};
+
+/* clang-format on */
+
+int wrong_answers(void)
+{
+    uint8_t table[RIG_HOUSE_TABLE_SIZE];
+    uint8_t block[RIG_BLOCK_SIZE];
+    uint8_t out[sizeof solved_form];
+    int wrong = 0;
+
+    /* P1 to P3. */
+    wrong += rig_house(table, sizeof table) != ANSWER(0, 0, 0);
+    wrong += table[2 * 33 + 9] != 11 || table[3 * 33 + 17] != 26 || table[11 * 33 + 18] != 0;
+
+    wrong += rig_open(33, 4, table, sizeof table, block, sizeof block) != ANSWER(0, 0, 0);
+    wrong += rig_take(block, sizeof block, facts, sizeof facts) != ANSWER(0, 1, 0);
+    wrong += rig_take(block, sizeof block, clashing_fact, sizeof clashing_fact) != ANSWER(11, 0, 0);
+    wrong += rig_ask(block, sizeof block, applying_rule, sizeof applying_rule) != ANSWER(0, 1, 0);
+    wrong += rig_ask(block, sizeof block, ruled_out_rule, sizeof ruled_out_rule) != ANSWER(0, 2, 0);
+    wrong += rig_ask(block, sizeof block, waiting_rule, sizeof waiting_rule) != ANSWER(0, 3, 0);
+    wrong += rig_ask(block, sizeof block, unreached_rule, sizeof unreached_rule) != ANSWER(10, 0, 1);
+    wrong += rig_write(block, sizeof block, out, sizeof out) != ANSWER(0, sizeof solved_form, 0);
+    wrong += memcmp(out, solved_form, sizeof solved_form) != 0;
+    return wrong;
+}
