@@ -1,10 +1,12 @@
 -- Asking: the ties and facts of a rule in range at their nodes and taken in turn, and the verdict that the form taken gives.
 -- Assumes nothing.
 use mathlib.Core.Path.{_≡_, refl, sym, ap, _∙_}
+use mathlib.Core.Logic.{inl, inr, by-cases}
 use mathlib.Core.Bool.{Bool, true, false, true≢false, false≢true}
 use mathlib.Core.List.{List, [], map}
 use Prim.Native.Nat.{ℕ, zero, suc, _+_, _*_, _/_, _%_, _<_, _≤_}
 use native.Mathlib.Omega.{arith}
+use native.Mathlib.Decide.{decLt}
 use native.Mathlib.Nat.{not-suc-le-zero, div-add-mod', mod-lt}
 use lib.ListN.{getD, length, take}
 use lib.Seq.{ext-getD, getD-take, length-take-le}
@@ -21,8 +23,8 @@ use Rattle.meaning.specs.Picture.{Fact, rename}
 use Rattle.meaning.specs.Picture.Fact.{has-kind, same, leads}
 use Rattle.meaning.specs.Rig.{meetOf}
 use Rattle.meaning.specs.Rule.{ruleJoint, Judged}
-use Rattle.meaning.specs.Form.{Form, unknown}
-use Rattle.meaning.specs.Solving.{InRange}
+use Rattle.meaning.specs.Form.{Form, listForm, unknown}
+use Rattle.meaning.specs.Solving.{InRange, Well}
 use Rattle.meaning.specs.Asking.{TiesInRange, RuleInRange, ruleNumber, ruleNode, tieFact, ruleNodeFacts, Extends, Settled}
 use Rattle.meaning.proofs.Extend.{extend-well}
 use Rattle.meaning.proofs.Asked.{clash-ruled-out, taken-not-out, settled-applies, applies-settled}
@@ -34,10 +36,9 @@ use Rattle.screening.proofs.WellFormed.{WellFormed, well-formed, packet-done}
 use Rattle.reach.specs.Reached.{ReachReply}
 use Rattle.reach.specs.Marking.{nthFact}
 use Rattle.reach.proofs.Reached.{all-reached}
-use Rattle.solver.specs.declared.Solved.{Solved}
-use Rattle.solver.specs.Unpacked.{byteClass, byteKind, formOf, Proper, Ready, Took}
-use Rattle.solver.proofs.Nodes.{held, byte-one}
-use Rattle.joints.specs.Layout.{kindsOf, jointsOf, rowsOf, blockForm, taken}
+use Rattle.solver.specs.Unpacked.{Named, Ready, Took}
+use Rattle.solver.proofs.OneFact.{well-named}
+use Rattle.joints.specs.Layout.{kindsOf, jointsOf, classesOf, jointKindsOf, rowsOf, blockForm, taken}
 use Rattle.blocks.specs.Layout.{tableOf, rigOf}
 use Rattle.blocks.specs.WellFormed.{blockReply}
 use Rattle.blocks.proofs.Shape.{GoodBlock, call-goes-on, block-rig, block-sized}
@@ -88,6 +89,20 @@ module _ {n v : ℕ} {p : List ℕ} (w : WellFormed ruleWanted n v p) where
   pub node-fact-range : (i : ℕ) → i < factCount p → InRange n (v + joints p) (nodeRuleFact v p i)
   node-fact-range i h = node-range n v (joints p) (nthFact p i) (fact-range i h)
 
+-- Free nodes behind a well-formed form: no link leads to one of them.
+pub extends-named : {n v k : ℕ} {S E : Form} → 0 < v → Well n v S → Extends v k S E → Named v E
+extends-named {n} {v} {k} {S} {E} some w x =
+    record {
+      some = some;
+      below = λ j l h.
+          by-cases (decLt j v)
+          (λ b. rw (x .link-old j l b h) (well-named some w .below j l h))
+          (λ a.
+          by-cases (decLt j (v + k))
+          (λ b. inl (x .link-new j l (omega arith) b h))
+          (λ b. inr (omega (arith, x .link-rest j l (omega arith) h, some))));
+    }
+
 -- the ties and the facts of a rule, at nodes, in a list made of the numbers in turn
 pub node-ties : (v : ℕ) (p : List ℕ) → map (tieFact v) (ruleOf p .ties) ≡ each (nodeTie v p) 0 (ties p)
 node-ties v p = each-map (tieFact v) (λ i. tieOf p (tieAt i)) 0 (ties p)
@@ -125,30 +140,23 @@ module _ (xs ys : List ℕ) (count : ℕ) (a : count ≤ length xs) (b : count �
       (λ i h. let k : i < count = omega (arith, n) in getD-take count xs i 0 k ∙ f i k ∙ sym (getD-take count ys i 0 k))
 
 -- the rig's part of a form, list by list; a row of links is 16 places
-module _ (v : ℕ) (s t : Solved) (had rows : List ℕ) (small : v ≤ 96) (ls : length (s .node) ≡ 96) (lt : length (t .node) ≡ 96) where
-  same-node : SameFront (t .node) (s .node) v → (j : ℕ) → j < v → getD (t .node) j 128 ≡ getD (s .node) j 128
-  same-node e j h = held (t .node) 128 0 j (omega arith) ∙ e j h ∙ held (s .node) 0 128 j (omega arith)
-
-  pub rig-same : SameFront (t .node) (s .node) v → SameFront rows had (16 * v) → Settled v 0 (formOf s had) (formOf t rows)
-  rig-same e r =
+module _ (v : ℕ) (b class kind rows : List ℕ) where
+  pub rig-same :
+      SameFront class (classesOf b) v → SameFront kind (jointKindsOf b) v → SameFront rows (rowsOf b) (16 * v)
+      → Settled v 0 (blockForm b) (listForm class kind rows)
+  rig-same c k r =
       record {
-        class = λ j h. ap (λ x. byteClass x j) (same-node e j h);
-        kind = λ j h. ap byteKind (same-node e j h);
-        link = λ j l h b. r (j * 16 + l) (omega arith);
+        class = c;
+        kind = k;
+        link = λ j l h i. r (j * 16 + l) (omega arith);
         inside = λ i h. absurd (not-suc-le-zero h);
       }
 
-  pub rig-nodes : Proper v s → Proper v t → Settled v 0 (formOf s had) (formOf t rows) → SameFront (t .node) (s .node) v
-  rig-nodes ps pt q j h =
-      let et = held (t .node) 0 128 j (omega arith) in
-      let es = held (s .node) 0 128 j (omega arith) in
-      et ∙ byte-one _ _ j (q .class j h) (q .kind j h) (λ e. pt j h (et ∙ e)) (λ e. ps j h (es ∙ e)) ∙ sym es
-
-  pub rig-rows : Settled v 0 (formOf s had) (formOf t rows) → SameFront rows had (16 * v)
+  pub rig-rows : Settled v 0 (blockForm b) (listForm class kind rows) → SameFront rows (rowsOf b) (16 * v)
   rig-rows q i h =
       let e : (i / 16) * 16 + i % 16 ≡ i = div-add-mod' i 16 in
-      let b : i % 16 < 16 = mod-lt i (omega arith) in
-      rw e at (q .link (i / 16) (i % 16) (omega arith) b)
+      let l : i % 16 < 16 = mod-lt i (omega arith) in
+      rw e at (q .link (i / 16) (i % 16) (omega arith) l)
 
 -- the rig's part with the rule's joints, and without them
 pub with-inside : {v k : ℕ} {S T : Form} → Settled v 0 S T → ((i : ℕ) → i < k → T .class (v + i) < v) → Settled v k S T
@@ -232,6 +240,9 @@ module _ {b p : List ℕ} (a : Asked b p) where
           well = extend-well (rig .two) (w .well) x;
         }
 
+    pub asked-named : Named (jointsOf b) E
+    asked-named = extends-named (a .good .well .v-low) (a .good .well .well) x
+
     -- what the ties and facts, taken there, say of the rule
     module _
         {T : Form} {ok : Bool}
@@ -250,27 +261,3 @@ module _ {b p : List ℕ} (a : Asked b p) where
           let w = a .good .well .well in
           let settles = applies-settled g w in-range small x (t .taken e) (all-reached reach refl) in
           (λ y. d (settles y), taken-not-out g w in-range small x (t .taken e))
-
--- The start's nodes with the block's own rows are, below the rig's joint count, the form of the block.
-module _
-    {v k : ℕ} (b : List ℕ) (start : Solved) (was had : List ℕ) (x : Extends v k (blockForm b) (formOf start was)) (e : had ≡ rowsOf b) where
-  had-link : (j l : ℕ) → formOf start had .link j l ≡ blockForm b .link j l
-  had-link j l = ap (λ (r : List ℕ). getD r (j * 16 + l) 0) e
-
-  pub from-start : {T : Form} → Settled v k (formOf start had) T → Settled v k (blockForm b) T
-  from-start q =
-      record {
-        class = λ j h. q .class j h ∙ x .class-old j h;
-        kind = λ j h. q .kind j h ∙ x .kind-old j h;
-        link = λ j l h i. q .link j l h i ∙ had-link j l;
-        inside = q .inside;
-      }
-
-  pub to-start : {T : Form} → Settled v k (blockForm b) T → Settled v k (formOf start had) T
-  to-start q =
-      record {
-        class = λ j h. q .class j h ∙ sym (x .class-old j h);
-        kind = λ j h. q .kind j h ∙ sym (x .kind-old j h);
-        link = λ j l h i. q .link j l h i ∙ sym (had-link j l);
-        inside = q .inside;
-      }

@@ -16,8 +16,8 @@ ghost use Rattle.packets.specs.Facts.{ruleOf};
 ghost use Rattle.packets.specs.Decoding.{ruleFact};
 ghost use Rattle.screening.specs.Screening.{packetReply, ruleWanted};
 ghost use Rattle.reach.specs.Reached.{ReachReply};
-ghost use Rattle.solver.specs.Unpacked.{classAt, formOf, rowsSize, Proper, nodeFact, Ready, Took};
-ghost use Rattle.joints.specs.Layout.{taken};
+ghost use Rattle.solver.specs.Unpacked.{formOf, rowsSize, Named, nodeFact, Ready, Took};
+ghost use Rattle.joints.specs.Layout.{sessionSize, blockForm, taken};
 ghost use Rattle.blocks.specs.Layout.{rigOf};
 ghost use Rattle.asking.specs.Ask.{askRefusal, Ask};
 use meaning::RuleFact;
@@ -56,27 +56,46 @@ fn rule_node_fact(v: u8, fact: RuleFact) -> NodeFact
     }
 }
 
-// The ties taken, one after the other.
+// The ties taken, one after the other: each in place where little follows from it, else with all that does.
 fn with_ties(start: Solved, rows: &mut [u8], table: &[u8], n: usize, v: u8, packet: &[u8]) -> Solved
-    requires { ⌜ (start .ok ≡ true) × (length (now rows) ≡ rowsSize) × Ready n (v + joints (now packet)) (now table) (formOf start (now rows)) ⌝ }
+    requires { ⌜ (length (now rows) ≡ rowsSize) × Ready n (v + joints (now packet)) (now table) (formOf start (now rows)) × Named (start .top) (formOf start (now rows)) ⌝ }
     requires { ⌜ packetReply ruleWanted n v (now packet) ≡ Done 0 ⌝ }
     ensures { λ r. ⌜ Took n (meetAt n (now (table .entry))) (v + joints (now (packet .entry))) (formOf start (now (rows .entry)))
-        (map (tieFact v) (ruleOf (now (packet .entry)) .ties)) (r .ok) (formOf r (now (rows .exit))) ⌝ }
+        (map (tieFact v) (ruleOf (now (packet .entry)) .ties)) (r .ok) (formOf r (now (rows .exit)))
+        × (r .ok ≡ true → Named (r .top) (formOf r (now (rows .exit)))) ⌝ }
 {
     let nodes = v as usize + packet[5] as usize;
     let count = packet[4] as usize;
-    let mut form = start;
+    let mut class = start.class;
+    let mut kind = start.kind;
+    let mut top = start.top;
     for i in 0..count {
         let tie = packets::tie(packet, 6 + 2 * i);
-        form = form.with_fact(rows, table, n, nodes, tie_fact(v, tie));
-        if !form.ok {
-            return form;
+        let fact = tie_fact(v, tie);
+        let plain = solver::take_plainly(&mut class, &mut kind, rows, top, table, n, nodes, fact);
+        top = plain.top;
+        if plain.yes {
+            continue;
         }
+        if !solver::take_wholly(&mut class, &mut kind, rows, table, n, nodes, fact) {
+            return Solved {
+                class,
+                kind,
+                top,
+                ok: false,
+            };
+        }
+        top = nodes as u8;
     }
-    form
+    Solved {
+        class,
+        kind,
+        top,
+        ok: true,
+    }
 }
 
-// The rule's facts taken, one after the other.
+// The rule's facts taken, one after the other, in the same way.
 fn with_rule_facts(
     start: Solved,
     rows: &mut [u8],
@@ -85,27 +104,45 @@ fn with_rule_facts(
     v: u8,
     packet: &[u8],
 ) -> Solved
-    requires { ⌜ (start .ok ≡ true) × (length (now rows) ≡ rowsSize) × Ready n (v + joints (now packet)) (now table) (formOf start (now rows)) ⌝ }
+    requires { ⌜ (length (now rows) ≡ rowsSize) × Ready n (v + joints (now packet)) (now table) (formOf start (now rows)) × Named (start .top) (formOf start (now rows)) ⌝ }
     requires { ⌜ packetReply ruleWanted n v (now packet) ≡ Done 0 ⌝ }
     ensures { λ r. ⌜ Took n (meetAt n (now (table .entry))) (v + joints (now (packet .entry))) (formOf start (now (rows .entry)))
         (map (rename (ruleNode v)) (ruleOf (now (packet .entry)) .facts)) (r .ok) (formOf r (now (rows .exit))) ⌝ }
 {
     let nodes = v as usize + packet[5] as usize;
     let count = packets::fact_count(packet);
-    let mut form = start;
+    let mut class = start.class;
+    let mut kind = start.kind;
+    let mut top = start.top;
     for i in 0..count {
         let fact = packets::rule_fact(packet, packets::fact_at(packet, i));
-        form = form.with_fact(rows, table, n, nodes, rule_node_fact(v, fact));
-        if !form.ok {
-            return form;
+        let fact = rule_node_fact(v, fact);
+        let plain = solver::take_plainly(&mut class, &mut kind, rows, top, table, n, nodes, fact);
+        top = plain.top;
+        if plain.yes {
+            continue;
         }
+        if !solver::take_wholly(&mut class, &mut kind, rows, table, n, nodes, fact) {
+            return Solved {
+                class,
+                kind,
+                top,
+                ok: false,
+            };
+        }
+        top = nodes as u8;
     }
-    form
+    Solved {
+        class,
+        kind,
+        top,
+        ok: true,
+    }
 }
 
 // The ties taken, then the facts.
 fn with_rule(start: Solved, rows: &mut [u8], table: &[u8], n: usize, v: u8, packet: &[u8]) -> Solved
-    requires { ⌜ (start .ok ≡ true) × (length (now rows) ≡ rowsSize) × Ready n (v + joints (now packet)) (now table) (formOf start (now rows)) ⌝ }
+    requires { ⌜ (length (now rows) ≡ rowsSize) × Ready n (v + joints (now packet)) (now table) (formOf start (now rows)) × Named (start .top) (formOf start (now rows)) ⌝ }
     requires { ⌜ packetReply ruleWanted n v (now packet) ≡ Done 0 ⌝ }
     ensures { λ r. ⌜ Took n (meetAt n (now (table .entry))) (v + joints (now (packet .entry))) (formOf start (now (rows .entry)))
         (ruleNodeFacts v (ruleOf (now (packet .entry)))) (r .ok) (formOf r (now (rows .exit))) ⌝ }
@@ -126,29 +163,31 @@ fn same_front(a: &[u8], b: &[u8], count: usize) -> bool
     runs::same(&a[..count], &b[..count])
 }
 
-// Whether the end, with its rows, says nothing new of the v joints that the start has, with the rows that it had.
-fn same_rig(start: Solved, had: &[u8], end: Solved, rows: &[u8], v: usize) -> bool
-    requires { ⌜ (v ≤ 64) × (1024 ≤ length (now had)) × (length (now rows) ≡ rowsSize) × Proper v start × Proper v end ⌝ }
-    ensures { λ r. ⌜ (r ≡ true → Settled v 0 (formOf start (now (had .entry))) (formOf end (now (rows .entry))))
-        × (r ≡ false → Settled v 0 (formOf start (now (had .entry))) (formOf end (now (rows .entry))) → ⊥) ⌝ }
+// Whether the end, with its rows, says nothing new of the session's v joints.
+fn same_rig(session: &[u8], end: Solved, rows: &[u8], v: usize) -> bool
+    requires { ⌜ (v ≤ 64) × (sessionSize ≤ length (now session)) × (length (now rows) ≡ rowsSize) ⌝ }
+    ensures { λ r. ⌜ (r ≡ true → Settled v 0 (blockForm (now (session .entry))) (formOf end (now (rows .entry))))
+        × (r ≡ false → Settled v 0 (blockForm (now (session .entry))) (formOf end (now (rows .entry))) → ⊥) ⌝ }
 {
-    let was = start.node;
-    let node = end.node;
-    if !same_front(&node, &was, v) {
+    let class = end.class;
+    if !same_front(&class, joints::classes(session), v) {
         return false;
     }
-    same_front(rows, had, 16 * v)
+    let kind = end.kind;
+    if !same_front(&kind, joints::kinds(session), v) {
+        return false;
+    }
+    same_front(rows, joints::rows(session), 16 * v)
 }
 
 // Whether each of the k rule joints is one with a rig joint: its class is numbered by one of the first v nodes.
 fn all_inside(form: Solved, v: usize, k: usize) -> bool
     requires { ⌜ v + k ≤ 96 ⌝ }
-    ensures { λ r. ⌜ (r ≡ true → (i : ℕ) → i < k → classAt (form .node) (v + i) < v)
-        × (r ≡ false → ((i : ℕ) → i < k → classAt (form .node) (v + i) < v) → ⊥) ⌝ }
+    ensures { λ r. ⌜ (r ≡ true → (i : ℕ) → i < k → getD (form .class) (v + i) 0 < v)
+        × (r ≡ false → ((i : ℕ) → i < k → getD (form .class) (v + i) 0 < v) → ⊥) ⌝ }
 {
-    let node = form.node;
     for i in 0..k {
-        if v <= solver::class_at(&node, (v + i) as u8) as usize {
+        if v <= form.class[v + i] as usize {
             return false;
         }
     }
@@ -156,13 +195,12 @@ fn all_inside(form: Solved, v: usize, k: usize) -> bool
 }
 
 // Whether nothing new is said of the rig, and each rule joint is one with a rig joint.
-fn settled(start: Solved, had: &[u8], end: Solved, rows: &[u8], v: usize, k: usize) -> bool
-    requires { ⌜ (v ≤ 64) × (1024 ≤ length (now had)) × (length (now rows) ≡ rowsSize) × Proper v start × Proper v end ⌝ }
-    requires { ⌜ v + k ≤ 96 ⌝ }
-    ensures { λ r. ⌜ (r ≡ true → Settled v k (formOf start (now (had .entry))) (formOf end (now (rows .entry))))
-        × (r ≡ false → Settled v k (formOf start (now (had .entry))) (formOf end (now (rows .entry))) → ⊥) ⌝ }
+fn settled(session: &[u8], end: Solved, rows: &[u8], v: usize, k: usize) -> bool
+    requires { ⌜ (v ≤ 64) × (sessionSize ≤ length (now session)) × (length (now rows) ≡ rowsSize) × (v + k ≤ 96) ⌝ }
+    ensures { λ r. ⌜ (r ≡ true → Settled v k (blockForm (now (session .entry))) (formOf end (now (rows .entry))))
+        × (r ≡ false → Settled v k (blockForm (now (session .entry))) (formOf end (now (rows .entry))) → ⊥) ⌝ }
 {
-    if !same_rig(start, had, end, rows, v) {
+    if !same_rig(session, end, rows, v) {
         return false;
     }
     all_inside(end, v, k)
@@ -183,7 +221,7 @@ fn verdict(block: &[u8], packet: &[u8]) -> Verdict
     if !end.ok {
         return Verdict::RuledOut;
     }
-    if settled(start, joints::rows(block), end, &rows, v as usize, k) {
+    if settled(block, end, &rows, v as usize, k) {
         return Verdict::Applies;
     }
     Verdict::Waits

@@ -1,4 +1,5 @@
 pub mod Tests
 pub mod Descent
 pub mod Rule
+pub mod Bytes
 pub mod Examples

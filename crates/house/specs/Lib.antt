@@ -1,2 +1,3 @@
 pub mod Parents
 pub mod Meets
+pub mod Words

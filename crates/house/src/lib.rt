@@ -1,13 +1,13 @@
 // The house kinds: their direct parents and their meet table, and the check of tables, which knows that table by its bytes.
 ghost use mathlib.Core.Path.{_≡_};
-ghost use mathlib.Core.Bool.{true};
 ghost use Prim.Native.Nat.{_<_};
-ghost use lib.ListN.{length};
 ghost use Rattle.kinds.specs.Sizes.{Sized};
 ghost use Rattle.tables.specs.Check.{tableReply};
 ghost use Rattle.house.specs.Parents.{parents, parentAt};
 ghost use Rattle.house.specs.Meets.{houseTable};
 use replies::Reply;
+
+mod words;
 
 // The direct parents of each kind, up to two; 0 where there is none.
 const PARENTS: [[u8; 2]; 33] = [
@@ -97,23 +97,13 @@ pub fn table() -> [u8; 1089]
     MEETS
 }
 
-// Whether a table with as many bytes as the house table is that one. A function of its own, since a constant is laid out where its function
-// starts: tables of other sizes need not wait for that.
-fn is_house(table: &[u8]) -> bool
-    requires { ⌜ length (now table) ≡ 1089 ⌝ }
-    ensures { λ r. ⌜ (r ≡ true → now (table .entry) ≡ houseTable) ⌝ }
-{
-    let size = 1089;
-    runs::same(&table[..size], &MEETS[..size])
-}
-
 // What the check of a table finds. The house table passes, so that its laws need not be looked at where the bytes are its own.
 pub fn check(table: &[u8], n: usize) -> Reply
     requires { ⌜ Sized n (now table) ⌝ }
     ensures { λ r. ⌜ r ≡ tableReply n (now (table .entry)) ⌝ }
 {
     if n == 33 {
-        if is_house(table) {
+        if words::is_house(table) {
             return Reply::Done(0);
         }
     }

@@ -1,5 +1,5 @@
 -- One result for the inner functions whose contracts are no equations: the test of two runs, the unpacked form, and what becomes of a form
--- with a fact. Both forms are fixed at every node, and with them the bytes of the code's nodes and rows.
+-- with a fact. Both forms are fixed at every node, and with them the bytes of the code's arrays.
 -- Assumes nothing.
 use mathlib.Core.Path.{_≡_, refl, sym, _∙_}
 use mathlib.Core.Logic.{by-cases}
@@ -14,16 +14,15 @@ use lib.Seq.{ext-getD}
 use Rattle.kinds.specs.Kinds.{meetAt}
 use Rattle.kinds.specs.Laws.{Lawful}
 use Rattle.meaning.specs.Picture.{Fact}
-use Rattle.meaning.specs.Picture.Fact.{has-kind, same, leads}
 use Rattle.meaning.specs.Form.{Form}
-use Rattle.meaning.specs.Solving.{Well, Taken, InRange}
+use Rattle.meaning.specs.Solving.{Taken, InRange}
 use Rattle.meaning.specs.Asking.{Extends}
-use Rattle.meaning.proofs.SameForm.{SameForm, form-well}
+use Rattle.meaning.proofs.SameForm.{SameForm}
 use Rattle.meaning.proofs.Unique.{taken-one}
 use Rattle.meaning.proofs.Takes.{taken-not-refuted}
 use Rattle.solver.specs.declared.Solved.{Solved}
 use Rattle.solver.specs.Unpacked.{formOf, Ready, Took}
-use Rattle.solver.proofs.Nodes.{byte-one, node-proper}
+use Rattle.solver.proofs.OneFact.{some-node}
 
 -- what `runs::same` allows
 pub same-one :
@@ -33,16 +32,14 @@ same-one true false x y = absurd (y .1 refl (x .0 refl))
 same-one false true x y = absurd (x .1 refl (y .0 refl))
 same-one false false x y = refl
 
--- Two unpacked forms that are one well-formed form are the same bytes, in the nodes and in the rows. The sizes are those of the array's type
--- and of the rows lent.
+-- Two unpacked forms that are one form are the same bytes, in the nodes and in the rows. The sizes are those of the arrays' type and of the
+-- rows lent.
 pub arrays-one :
-    {n v : ℕ} (s t : Solved) (rows rows' : List ℕ) → 0 < v → Well n v (formOf s rows)
-    → length (s .node) ≡ length (t .node) → length rows ≡ length rows' → SameForm (formOf s rows) (formOf t rows')
-    → (s .node ≡ t .node) × (rows ≡ rows')
-arrays-one s t rows rows' pos w c l e = (
-  ext-getD 128 (s .node) (t .node) c
-      (λ j _.
-      byte-one _ _ j (e .class j) (e .kind j) (node-proper (s .node) rows w pos j) (node-proper (t .node) rows' (form-well e w) pos j)),
+    (s t : Solved) (rows rows' : List ℕ) → length (s .class) ≡ length (t .class) → length (s .kind) ≡ length (t .kind) → length rows ≡ length rows'
+    → SameForm (formOf s rows) (formOf t rows') → (s .class ≡ t .class) × (s .kind ≡ t .kind) × (rows ≡ rows')
+arrays-one s t rows rows' c k l e = (
+  ext-getD 0 (s .class) (t .class) c (λ j _. e .class j),
+  ext-getD 0 (s .kind) (t .kind) k (λ j _. e .kind j),
   ext-getD 0 rows rows' l
       (λ p _. let q : p / 16 * 16 + p % 16 ≡ p = div-add-mod' p 16 in rw q at (e .link (p / 16) (p % 16) (mod-lt p (omega arith)))),
 )
@@ -70,11 +67,6 @@ pub with-fact-one :
     {n v : ℕ} {meet : ℕ → ℕ → ℕ} {S T U : Form} {fs : List (Fact ℕ)} → Lawful n meet → 0 < v → Taken n meet v S fs T → Taken n meet v S fs U
     → SameForm T U
 with-fact-one L pos t u = taken-one L pos t u
-
-some-node : (n v : ℕ) (f : Fact ℕ) → InRange n v f → 0 < v
-some-node n v (has-kind a s) h = omega (arith, h .0)
-some-node n v (same a b) h = omega (arith, h .0)
-some-node n v (leads a l c) h = omega (arith, h .0)
 
 -- what it allows, taken or not, wherever it may be called: one flag, and one form where the flag is true
 module _ {n v : ℕ} {table : List ℕ} {S : Form} (f : Fact ℕ) (ready : Ready n v table S) (in-range : InRange n v f) where

@@ -29,10 +29,10 @@ renumber-cases b a x C f g =
 renumber-placed : (b a x : ℕ) (σ : ℕ → ℕ) → σ a ≡ σ b → σ (renumber b a x) ≡ σ x
 renumber-placed b a x σ e = renumber-cases b a x (λ y. σ y ≡ σ x) (λ q. e ∙ ap σ (sym q)) (λ _. refl)
 
-known-first : (x y : ℕ) → x ≢ unknown → knownOf x y ≡ x
+pub known-first : (x y : ℕ) → x ≢ unknown → knownOf x y ≡ x
 known-first x y d = rw (ne-eqb x unknown d)
 
-known-second : (x y : ℕ) → x ≡ unknown → knownOf x y ≡ y
+pub known-second : (x y : ℕ) → x ≡ unknown → knownOf x y ≡ y
 known-second x y e = rw (eq-eqb x unknown e)
 
 -- a node's class is a class

@@ -1,5 +1,4 @@
 pub mod Fill
-pub mod Nodes
 pub mod Join
 pub mod Sets
 pub mod Run

@@ -1,94 +1,178 @@
 -- One fact, arm by arm: what the code reads of the nodes and rows, and what it stores, is the fact taken or refuted.
 -- Assumes nothing.
-use mathlib.Core.Path.{_≡_, sym, _∙_, ap}
-use mathlib.Core.Logic.{_≢_}
-use mathlib.Core.Bool.{Bool, true, false, true≢false}
+use mathlib.Core.Path.{_≡_, refl, sym, _∙_, ap}
+use mathlib.Core.Logic.{_≢_, _⊎_, inl, inr, by-cases, ⊎-elim}
+use mathlib.Core.Bool.{Bool, true, false}
 use mathlib.Core.List.{List, [], _∷_}
-use Prim.Native.Nat.{ℕ, _+_, _*_, _<_}
+use Prim.Native.Nat.{ℕ, _+_, _*_, _<_, _≤_}
 use native.Mathlib.Omega.{arith}
+use native.Mathlib.Decide.{ℕ-discrete, decLt}
 use lib.ListN.{getD, length, set}
 use Rattle.kinds.specs.Kinds.{meetAt}
 use Rattle.meaning.specs.Picture.{Fact}
 use Rattle.meaning.specs.Picture.Fact.{has-kind, same, leads}
-use Rattle.meaning.specs.Form.{Form, unknown}
-use Rattle.meaning.specs.Solving.{Taken}
-use Rattle.solver.specs.Unpacked.{classAt, kindAt, nodesForm, rowsSize, Ready, Took}
-use Rattle.solver.proofs.Join.{class-of}
-use Rattle.solver.proofs.Nodes.{kind-held}
+use Rattle.meaning.specs.Form.{Form, listForm, unknown}
+use Rattle.meaning.specs.Solving.{Smallest, Well, InRange, Taken, Refuted}
+use Rattle.solver.specs.Unpacked.{rowsSize, Lent, Named, Ready, Took}
+use Rattle.solver.specs.Steps.{renumber, knownOf, LinkSet, Unnamed, Joined, JoinedAlone, KindMet, LinkPut}
+use Rattle.solver.proofs.Join.{renumber-hit, renumber-miss, known-first, known-second, class-of}
 use Rattle.solver.proofs.Sets.{kind-taken, kind-refuted, same-already, link-taken, known-taken, known-refuted, end-inside}
 use Rattle.solver.proofs.Stores.{kind-parts, link-parts, class-inside}
-use Rattle.solver.proofs.Takes.{took-refuted}
 
-taken-so :
-    {n : ℕ} {meet : ℕ → ℕ → ℕ} {v : ℕ} {S : Form} {fs : List (Fact ℕ)} {T : Form} {ok : Bool} → ok ≡ true → Taken n meet v S fs T
-    → Took n meet v S fs ok T
-taken-so e t = record { taken = λ _. t; refuted = λ q. absurd (true≢false (sym e ∙ q)) }
-
-module _ {n v : ℕ} (table node rows : List ℕ) (d : Ready n v table (nodesForm node rows)) where
+module _ {n v : ℕ} {table class kind rows : List ℕ} (d : Ready n v table (listForm class kind rows)) (lent : Lent class kind rows) where
   abbrev S : Form
-  S = nodesForm node rows
+  S = listForm class kind rows
 
   abbrev meet : ℕ → ℕ → ℕ
   meet = meetAt n table
 
-  -- a is the class read of x
-  module _ (nodes : length node ≡ 96) {x : ℕ} (hx : x < v) {a : ℕ} (e : a ≡ classAt node x) where
-    pub class-read : a < 96
-    class-read = omega (arith, class-inside d x hx)
+  module _ {x : ℕ} (hx : x < v) where
+    pub node-inside : x < 96
+    node-inside = omega (arith, d .nodes)
 
-    pub kind-read : getD node a 0 ≡ kindAt node (classAt node x)
-    kind-read = rw e (kind-held node rows (d .well) (classAt node x) (class-of (d .well) x hx) (omega (arith, nodes, class-inside d x hx)))
+    pub class-read : getD class x 0 < 96
+    class-read = class-inside d x hx
 
-    pub kind-in : getD node a 0 < n
-    kind-in = omega (arith, kind-read, d .well .kind-in (classAt node x))
+    pub kind-read : getD kind (getD class x 0) 0 < n
+    kind-read = d .well .kind-in (getD class x 0)
 
     -- its kind is met with s
-    module _ {s k : ℕ} (hs : s < n) (q : k ≡ meet (getD node a 0) s) where
-      met : k ≡ meet (kindAt node (classAt node x)) s
-      met = q ∙ ap (λ i. meet i s) kind-read
+    module _ {s : ℕ} (hs : s < n) {ok : Bool} {kind' : List ℕ} (m : KindMet meet class kind x s ok kind') where
+      pub kind-takes : ok ≡ true → Taken n meet v S (has-kind x s ∷ []) (listForm class kind' rows)
+      kind-takes e =
+          let k = m .some e in
+          rw (k .1) (kind-taken (d .lawful) (d .well) hx hs (k .0) (kind-parts class kind rows _ _ (lent .kind-size) class-read))
 
-      pub kind-took : {ok : Bool} → ok ≡ true → k ≢ 0 → Took n meet v S (has-kind x s ∷ []) ok (nodesForm (set node a k) rows)
-      kind-took ok some =
-          let c = classAt node x in
-          let small = d .lawful .closed _ _ (d .well .kind-in c) hs in
-          taken-so ok
-          (kind-taken (d .lawful) (d .well) hx hs (λ i. some (met ∙ i))
-          (rw e
-          (kind-parts node rows c k nodes (class-inside d x hx) (class-of (d .well) x hx .1) (omega (arith, small, met, d .kinds)) met)))
+      pub kind-refutes : ok ≡ false → Refuted n meet v S (has-kind x s ∷ [])
+      kind-refutes e = kind-refuted (d .lawful) (d .well) hx hs (d .two) (m .none e .0)
 
-      pub kind-clashes : {T : Form} → k ≡ 0 → Took n meet v S (has-kind x s ∷ []) false T
-      kind-clashes none = took-refuted _ _ (kind-refuted (d .lawful) (d .well) hx hs (d .two) (sym met ∙ none))
-
-    -- the classes read are one
-    pub same-took : {y b : ℕ} {ok : Bool} → ok ≡ true → y < v → b ≡ classAt node y → a ≡ b → Took n meet v S (same x y ∷ []) ok S
-    same-took ok hy f q = taken-so ok (same-already (d .well) hx hy (sym e ∙ q ∙ f))
-
-    module _ {l : ℕ} (hl : l < 16) where
+    module _ {l y : ℕ} (hl : l < 16) (hy : y < v) where
       -- the link is not known, and set
-      pub free-took :
-          {y c : ℕ} {ok : Bool} → ok ≡ true → y < v → c ≡ classAt node y → length rows ≡ rowsSize → getD rows (a * 16 + l) 0 ≡ unknown
-          → Took n meet v S (leads x l y ∷ []) ok (nodesForm node (set rows (a * 16 + l) c))
-      free-took {y} {c} ok hy f size free =
-          taken-so ok
-          (link-taken (omega (arith, d .nodes)) (d .well) hx hl hy (rw e at free)
-          (rw (e, f) (link-parts node rows (classAt node x) l (classAt node y) size (class-inside d x hx) hl)))
+      pub link-takes :
+          {rows' : List ℕ} → LinkPut class rows x l y true rows' → Taken n meet v S (leads x l y ∷ []) (listForm class kind rows')
+      link-takes m =
+          let k = m .free refl in
+          rw (k .1)
+          (link-taken (omega (arith, d .nodes)) (d .well) hx hl hy (k .0)
+          (link-parts class kind rows _ l _ (lent .rows-size) class-read hl))
 
-      -- the link is known: its end and y are made one
-      module _ {end : ℕ} (q : end ≡ getD rows (a * 16 + l) 0) (known : end ≢ unknown) where
-        at-class : end ≡ S .link (classAt node x) l
-        at-class = q ∙ ap (λ i. getD rows (i * 16 + l) 0) e
+    -- the link is known: its end and y are made one
+    module _ {l : ℕ} (hl : l < 16) (known : getD rows (getD class x 0 * 16 + l) 0 ≢ unknown) where
+      pub end-read : getD rows (getD class x 0 * 16 + l) 0 < v
+      end-read = end-inside (d .well) (class-of (d .well) x hx) hl known
 
-        known-there : S .link (classAt node x) l ≢ unknown
-        known-there z = known (at-class ∙ z)
+      -- its end is a class
+      pub end-class : getD class (getD rows (getD class x 0 * 16 + l) 0) 0 ≡ getD rows (getD class x 0 * 16 + l) 0
+      end-class = ⊎-elim (λ u. absurd (known u)) (λ s. s .1) (d .well .link-smallest (getD class x 0) l (class-of (d .well) x hx) hl)
 
-        pub end-read : end < v
-        end-read = rw at-class (end-inside (d .well) (class-of (d .well) x hx) hl known-there)
+      pub known-takes :
+          {y : ℕ} {T : Form} → Taken n meet v S (same (getD rows (getD class x 0 * 16 + l) 0) y ∷ []) T → Taken n meet v S (leads x l y ∷ []) T
+      known-takes t = known-taken (d .well) hx hl known t
 
-        pub known-took :
-            {y : ℕ} {ok : Bool} {T : Form} → Took n meet v S (same end y ∷ []) ok T → Took n meet v S (leads x l y ∷ []) ok T
-        known-took {y} {ok} {T} t =
-            let u : Took n meet v S (same (S .link (classAt node x) l) y ∷ []) ok T = rw at-class at t in
-            record {
-              taken = λ z. known-taken (d .well) hx hl known-there (u .taken z);
-              refuted = λ z. known-refuted (d .well) hx hl known-there (u .refuted z);
-            }
+      pub known-took :
+          {y : ℕ} {ok : Bool} {T : Form} → Took n meet v S (same (getD rows (getD class x 0 * 16 + l) 0) y ∷ []) ok T
+          → Took n meet v S (leads x l y ∷ []) ok T
+      known-took t =
+          record {
+            taken = λ z. known-taken (d .well) hx hl known (t .taken z);
+            refuted = λ z. known-refuted (d .well) hx hl known (t .refuted z);
+          }
+
+  -- the two are one already
+  pub same-takes : {x y : ℕ} → x < v → y < v → getD class x 0 ≡ getD class y 0 → Taken n meet v S (same x y ∷ []) S
+  same-takes hx hy e = same-already (d .well) hx hy e
+
+-- a fact in range is of some node
+pub some-node : (n v : ℕ) (f : Fact ℕ) → InRange n v f → 0 < v
+some-node n v (has-kind a s) r = omega (arith, r .0)
+some-node n v (same a b) r = omega (arith, r .0)
+some-node n v (leads a l c) r = omega (arith, r .0)
+
+-- Which nodes the links of a well-formed form lead to.
+pub well-named : {n v : ℕ} {S : Form} → 0 < v → Well n v S → Named v S
+well-named {n} {v} {S} some w =
+    record {
+      some = some;
+      below = λ j l h.
+          by-cases (decLt j v)
+          (λ i.
+          by-cases (ℕ-discrete (S .class j) j)
+          (λ e. ⊎-elim (λ u. inl u) (λ s. inr (s .0)) (w .link-smallest j l (i, e) h))
+          (λ e. inr (omega (arith, w .link-rest j l (λ s. e (s .1)) h, some))))
+          (λ i. inr (omega (arith, w .link-rest j l (λ s. i (s .0)) h, some)));
+    }
+
+-- the same links, and a top that is not lower
+pub named-more : {top top' : ℕ} {S : Form} → top ≤ top' → Named top S → Named top' S
+named-more h d =
+    record { some = omega (arith, d .some); below = λ j l i. ⊎-elim (λ u. inl u) (λ b. inr (omega arith)) (d .below j l i) }
+
+-- one link more, to c
+pub named-link : {top top' a l c : ℕ} {S T : Form} → top ≤ top' → c < top' → LinkSet S a l c T → Named top S → Named top' T
+named-link {top} {top'} {a} {l} {c} {S} {T} h k t d =
+    record {
+      some = omega arith;
+      below = λ j m i.
+          by-cases (ℕ-discrete j a)
+          (λ e.
+          by-cases (ℕ-discrete m l)
+          (λ f. let q : T .link j m ≡ c = rw (e, f) (t .link-a) in inr (omega arith))
+          (λ f. old j m i (λ _ q. f q)))
+          (λ e. old j m i (λ q _. e q));
+    }
+  where
+    old : (j m : ℕ) → m < 16 → (j ≡ a → m ≡ l → ⊥) → (T .link j m ≡ unknown) ⊎ (T .link j m < top')
+    old j m i e =
+        let q = t .link-rest j m i e in
+        ⊎-elim (λ u. inl (q ∙ u)) (λ b. inr (omega arith)) (d .below j m i)
+
+-- where a link may lead
+abbrev Fine : ℕ → ℕ → Type 0
+Fine top x = (x ≡ unknown) ⊎ (x < top)
+
+-- two classes joined
+pub named-join : {top a b k : ℕ} {S T : Form} → a < b → b < unknown → Joined S a b k T → Named top S → Named top T
+named-join {top} {a} {b} {k} {S} {T} less small t d =
+    record {
+      some = d .some;
+      below = λ j l i.
+          by-cases (ℕ-discrete j a)
+          (λ e. along (rw e (t .link-a l i)) (renumbered (known (d .below a l i) (d .below b l i))))
+          (λ e.
+          by-cases (ℕ-discrete j b)
+          (λ f. let q : T .link j l ≡ 0 = rw f (t .link-b l i) in inr (omega (arith, d .some)))
+          (λ f. along (t .link-rest j l i e f) (renumbered (d .below j l i))));
+    }
+  where
+    along : {x y : ℕ} → x ≡ y → Fine top y → Fine top x
+    along e f = rw e f
+
+    known : {x y : ℕ} → Fine top x → Fine top y → Fine top (knownOf x y)
+    known {x} {y} f g =
+        by-cases (ℕ-discrete x unknown) (λ e. along (known-second x y e) g) (λ e. along (known-first x y e) f)
+
+    renumbered : {x : ℕ} → Fine top x → Fine top (renumber b a x)
+    renumbered {x} f =
+        by-cases (ℕ-discrete x b)
+        (λ e. along (renumber-hit b a x e) (⊎-elim (λ u. absurd (omega arith)) (λ h. inr (omega arith)) f))
+        (λ e. along (renumber-miss b a x e) f)
+
+-- ... or not
+pub named-alone :
+    {meet : ℕ → ℕ → ℕ} {top low high : ℕ} {S T : Form} (yes : Bool) → low < high → high < unknown → JoinedAlone meet S low high yes T → Named top S
+    → Named top T
+named-alone true less small j d = named-join less small (j .joined refl) d
+named-alone false less small j d = rw (j .kept refl) d
+
+-- the link of x set
+pub named-put :
+    {n v top top' x l y : ℕ} {table class kind rows rows' : List ℕ} → Ready n v table (listForm class kind rows) → Lent class kind rows
+    → x < v → l < 16 → LinkPut class rows x l y true rows' → top ≤ top' → getD class y 0 < top' → Named top (listForm class kind rows)
+    → Named top' (listForm class kind rows')
+named-put {class = class} {kind = kind} {rows = rows} d lent hx hl m h k b =
+    let p = m .free refl in
+    rw (p .1) (named-link h k (link-parts class kind rows _ _ _ (lent .rows-size) (class-inside d _ hx) hl) b)
+
+-- no link leads to a node that is not below top
+pub unnamed : {top b : ℕ} (class kind rows : List ℕ) → Named top (listForm class kind rows) → top ≤ b → b < unknown → Unnamed b rows
+unnamed class kind rows d h small j l i e = ⊎-elim (λ u. omega (arith, u)) (λ k. omega (arith, k)) (d .below j l i)

@@ -3,6 +3,7 @@
 -- Assumes nothing.
 use mathlib.Core.Path.{_≡_, refl, sym, _∙_, ap}
 use mathlib.Core.Logic.{_↔_, _≢_, _⊎_, inl, inr, by-cases, ⊎-elim}
+use mathlib.Core.Bool.{true}
 use mathlib.Core.List.{List, [], _∷_}
 use Prim.Native.Nat.{ℕ, zero, suc, _+_, _-_, _*_, _<_, _≤_}
 use native.Mathlib.Omega.{arith}
@@ -13,10 +14,10 @@ use borrow.Author.Tests.{eq-eqb, ne-eqb}
 use Rattle.kinds.specs.Kinds.{meetAt}
 use Rattle.meaning.specs.Picture.{Picture, Fact}
 use Rattle.meaning.specs.Picture.Fact.{same}
-use Rattle.meaning.specs.Form.{Form, unknown, classes}
+use Rattle.meaning.specs.Form.{Form, listForm, unknown, classes}
 use Rattle.meaning.specs.Solving.{Smallest, Well, Models, Taken, Refuted}
-use Rattle.solver.specs.Unpacked.{nodesForm, rowsSize, Ready}
-use Rattle.solver.specs.Steps.{bothKnown, InOrder, Pairs, Running, Pushed, JoinReady, JoinDone}
+use Rattle.solver.specs.Unpacked.{Lent, Ready}
+use Rattle.solver.specs.Steps.{bothKnown, InOrder, Pairs, Running, Pushed, Joinable, JoinReady, JoinDone, JoinedAlone}
 use Rattle.solver.proofs.Join.{
   Joining,
   EndsAgree,
@@ -92,6 +93,10 @@ both-cases x y C f g =
     by-cases (ℕ-discrete y unknown)
     (λ e. rw (ne-eqb x unknown d, eq-eqb y unknown e) (g (inr e)))
     (λ c. rw (ne-eqb x unknown d, ne-eqb y unknown c) (f d c)))
+
+-- where both are known it is not 0
+pub both-some : {x y : ℕ} → x ≢ unknown → y ≢ unknown → bothKnown x y ≡ 0 → ⊥
+both-some {x} {y} dx dy e = let q : bothKnown x y ≡ 1 = rw (ne-eqb x unknown dx, ne-eqb y unknown dy) refl in omega (arith, q, e)
 
 pub pushed-none : (x y : ℕ → ℕ) (left right : List ℕ) (size : ℕ) → Pushed 0 x y left right size left right size
 pushed-none x y left right size =
@@ -370,20 +375,59 @@ module _
 
 -- what joining asks for, of the nodes and rows at hand
 pub run-ready :
-    {n v : ℕ} {table : List ℕ} {S₀ : Form} (d : Ready n v table S₀) {fs : List (Fact ℕ)} (node rows : List ℕ) {left right : List ℕ} {size : ℕ}
-    (r : Running n (meetAt n table) v S₀ fs (nodesForm node rows) left right size) (some : 0 < size) {low high : ℕ}
-    → InOrder (nodesForm node rows .class (getD left (size - 1) 0)) (nodesForm node rows .class (getD right (size - 1) 0)) low high
-    → length node ≡ 96 → length rows ≡ rowsSize → size + 15 ≤ length left → size + 15 ≤ length right
-    → JoinReady n v table node rows low high left right size
-run-ready d node rows r some o node-size rows-size room-left room-right =
+    {n v : ℕ} {table : List ℕ} {S₀ : Form} (d : Ready n v table S₀) {fs : List (Fact ℕ)} {class kind rows left right : List ℕ} {size : ℕ}
+    (r : Running n (meetAt n table) v S₀ fs (listForm class kind rows) left right size) (some : 0 < size) {low high : ℕ}
+    → InOrder (getD class (getD left (size - 1) 0) 0) (getD class (getD right (size - 1) 0) 0) low high
+    → Lent class kind rows → size + 15 ≤ length left → size + 15 ≤ length right
+    → JoinReady n v table class kind rows low high left right size
+run-ready d r some o lent room-left room-right =
     record {
-      node-size = node-size;
-      rows-size = rows-size;
       ready = run-form d r some o;
-      less = o .less;
-      low-smallest = smallest-low d r some o;
-      high-smallest = smallest-high d r some o;
+      joinable = record {
+        lent = lent;
+        nodes = d .nodes;
+        well = r .well;
+        less = o .less;
+        low-smallest = smallest-low d r some o;
+        high-smallest = smallest-high d r some o;
+      };
       some = some;
       room-left = room-left;
       room-right = room-right;
     }
+
+-- the classes of two nodes, in order, can be joined
+pub pair-joinable :
+    {n v : ℕ} {table class kind rows : List ℕ} → Ready n v table (listForm class kind rows) → Lent class kind rows → {x y low high : ℕ} → x < v → y < v
+    → InOrder (getD class x 0) (getD class y 0) low high → Joinable n v class kind rows low high
+pair-joinable {n} {v} {table} d lent {x} {y} hx hy o =
+    let start = run-start {meet = meetAt n table} (d .well) hx hy {left = x ∷ []} {right = y ∷ []} refl refl in
+    record {
+      lent = lent;
+      nodes = d .nodes;
+      well = d .well;
+      less = o .less;
+      low-smallest = smallest-low d start (omega arith) o;
+      high-smallest = smallest-high d start (omega arith) o;
+    }
+
+-- two classes joined from which nothing more follows: the pair is all there is to be made one
+pub alone-taken :
+    {n v : ℕ} {table : List ℕ} {S : Form} (d : Ready n v table S) {x y low high : ℕ} → x < v → y < v
+    → InOrder (S .class x) (S .class y) low high → {T : Form} → JoinedAlone (meetAt n table) S low high true T
+    → Taken n (meetAt n table) v S (same x y ∷ []) T
+alone-taken {table = table} {S = S} d {x} {y} {low} {high} hx hy o {T} j =
+    let start = run-start (d .well) hx hy {left = x ∷ []} {right = y ∷ []} refl refl in
+    run-done {left = x ∷ []} {right = y ∷ []}
+    (run-join d start (omega arith) o
+    (record {
+      some = j .some refl;
+      joined = j .joined refl;
+      pushed = record {
+        more = omega arith;
+        most = omega arith;
+        old = λ i h. absurd (omega arith);
+        new = λ i a b. absurd (omega arith);
+        all = λ l h p q. absurd (j .apart refl l h p q);
+      };
+    }))

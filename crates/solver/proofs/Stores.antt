@@ -1,6 +1,6 @@
 -- The stores of joining and of `with_fact`, put together: each makes the form that its step names.
 -- Assumes nothing.
-use mathlib.Core.Path.{_≡_, refl, sym, _∙_, ap}
+use mathlib.Core.Path.{_≡_, refl, sym, _∙_, ap, ap₂}
 use mathlib.Core.Logic.{_≢_, by-cases}
 use mathlib.Core.List.{List, _++_}
 use Prim.Native.Nat.{ℕ, _+_, _-_, _*_, _<_, _≤_}
@@ -8,12 +8,10 @@ use native.Mathlib.Omega.{arith}
 use native.Mathlib.Decide.{ℕ-discrete, decLt}
 use lib.ListN.{getD, length, set, drop, take, length-set, length-append, length-drop, List·getD-append, List·getD-eq-default}
 use lib.Seq.{getD-set-same, getD-set-other, getD-append-add, getD-take, getD-drop, length-take-le}
-use Rattle.meaning.specs.Form.{Form}
-use Rattle.meaning.specs.Solving.{Smallest}
-use Rattle.solver.specs.Unpacked.{byteClass, byteKind, nodesForm, rowsSize, Ready}
-use Rattle.solver.specs.Steps.{renumber, knownOf, Renumbered, RowPut, NodesJoined, RowsJoined, Joined, KindSet, LinkSet}
-use Rattle.solver.proofs.Join.{renumber-hit, renumber-miss, class-of}
-use Rattle.solver.proofs.Nodes.{class-kind, class-number, kind-kind, kind-number, held, renumbered-class, renumbered-kind}
+use Rattle.meaning.specs.Form.{Form, listForm, unknown}
+use Rattle.solver.specs.Unpacked.{rowsSize, Ready}
+use Rattle.solver.specs.Steps.{renumber, knownOf, Renumbered, RowOf, RowPut, RowsJoined, Unnamed, Joined, KindSet, LinkSet, Joinable}
+use Rattle.solver.proofs.Join.{renumber-miss, known-first, known-second, class-of}
 
 -- the first v places renumbered, and the others as they were
 module _ (s x : List ℕ) {v b a : ℕ} (h : v ≤ length s) (r : Renumbered (take v s) b a x) where
@@ -41,140 +39,99 @@ module _ (s x : List ℕ) {v b a : ℕ} (h : v ≤ length s) (r : Renumbered (ta
       ∙ getD-drop v s (i - v) 0
       ∙ ap (λ (m : ℕ). getD s m 0) p
 
--- the nodes renumbered, and a and b set
-pub nodes-joined :
-    (s x : List ℕ) (v a b k : ℕ) → (length s ≡ 96) × (v ≤ 96) × (a < b) × (b < v) → Renumbered (take v s) (b + 128) (a + 128) x
-    → NodesJoined s v a b k (set (set (x ++ drop v s) a k) b (a + 128))
-nodes-joined s x v a b k (size, small, less, inside) r =
-    let fits : v ≤ length s = omega arith in
-    let t : List ℕ = x ++ drop v s in
-    let n : length t ≡ length s = front-size s x fits r in
-    record {
-      size = length-set (set t a k) b (a + 128) ∙ length-set t a k ∙ n;
-      at-a = getD-set-other (set t a k) b a (a + 128) 0 (λ e. omega arith) ∙ getD-set-same t a k 0 (omega arith);
-      at-b = getD-set-same (set t a k) b (a + 128) 0 (simp length-set (omega arith));
-      inside = λ j h d e. getD-set-other (set t a k) b j (a + 128) 0 e ∙ getD-set-other t a j k 0 d ∙ front-inside s x fits r j h;
-      behind = λ j h.
-          getD-set-other (set t a k) b j (a + 128) 0 (λ e. omega arith)
-          ∙ getD-set-other t a j k 0 (λ e. omega arith)
-          ∙ front-behind s x fits r j h;
-    }
-
--- two rows put, and the rows renumbered
-pub rows-joined :
-    (s row zeros s₁ s₂ x : List ℕ) (v a b : ℕ) → (length s ≡ rowsSize) × (v ≤ 96) × (a < b) × (b < v)
-    → RowPut s a row s₁ → ((l : ℕ) → l < 16 → getD zeros l 0 ≡ 0) → RowPut s₁ b zeros s₂
-    → Renumbered (take (16 * v) s₂) b a x → RowsJoined s v a b row (x ++ drop (16 * v) s₂)
-rows-joined s row zeros s₁ s₂ x v a b (size, small, less, inside) p hz q r =
-    let fits : 16 * v ≤ length s₂ = omega (arith, p .size, q .size) in
-    record {
-      at-a = λ l i.
-          front-inside s₂ x fits r (a * 16 + l) (omega arith) ∙ ap (renumber b a) (q .rest a l i (λ e. omega arith) ∙ p .at l i);
-      at-b = λ l i.
-          front-inside s₂ x fits r (b * 16 + l) (omega arith)
-          ∙ ap (renumber b a) (q .at l i ∙ hz l i)
-          ∙ renumber-miss b a 0 (λ e. omega arith);
-      inside = λ j l i h d e.
-          front-inside s₂ x fits r (j * 16 + l) (omega arith) ∙ ap (renumber b a) (q .rest j l i e ∙ p .rest j l i d);
-      behind = λ j l i h.
-          front-behind s₂ x fits r (j * 16 + l) (omega arith) ∙ q .rest j l i (λ e. omega arith) ∙ p .rest j l i (λ e. omega arith);
-    }
-
--- what the joined nodes and rows are as a form
+-- two rows put, s₂
 module _
-    {n v : ℕ} {table : List ℕ} (node rows : List ℕ) (d : Ready n v table (nodesForm node rows)) (size : length node ≡ 96)
-    {a b k : ℕ} (less : a < b) (ha : Smallest v (nodesForm node rows) a) (hb : Smallest v (nodesForm node rows) b) (small : k < 128)
-    (node' : List ℕ) (p : NodesJoined node v a b k node') where
-  node-a : getD node' a 128 ≡ k
-  node-a = held node' 128 0 a (omega (arith, p .size, ha .0, d .nodes)) ∙ p .at-a
+    (s x y row zeros s₁ s₂ : List ℕ) {v a b : ℕ} (fits : (length s ≡ rowsSize) × (v ≤ 96) × (a < b) × (b < v))
+    (hx : RowOf s a x) (hy : RowOf s b y) (hrow : (l : ℕ) → l < 16 → getD row l 0 ≡ knownOf (getD x l 0) (getD y l 0))
+    (p : RowPut s a row s₁) (hz : (l : ℕ) → l < 16 → getD zeros l 0 ≡ 0) (q : RowPut s₁ b zeros s₂) where
+  put-a : (l : ℕ) → l < 16 → getD s₂ (a * 16 + l) 0 ≡ knownOf (getD s (a * 16 + l) 0) (getD s (b * 16 + l) 0)
+  put-a l i = q .rest a l i (λ e. omega arith) ∙ p .at l i ∙ hrow l i ∙ ap₂ knownOf (hx l i) (hy l i)
 
-  node-b : getD node' b 128 ≡ a + 128
-  node-b = held node' 128 0 b (omega (arith, p .size, hb .0, d .nodes)) ∙ p .at-b
+  put-b : (l : ℕ) → l < 16 → getD s₂ (b * 16 + l) 0 ≡ 0
+  put-b l i = q .at l i ∙ hz l i
 
-  node-inside : (j : ℕ) → j < v → j ≢ a → j ≢ b → getD node' j 128 ≡ renumber (b + 128) (a + 128) (getD node j 128)
-  node-inside j h x y =
-      held node' 128 0 j (omega (arith, p .size, d .nodes))
-      ∙ p .inside j h x y
-      ∙ ap (renumber (b + 128) (a + 128)) (held node 0 128 j (omega (arith, d .nodes)))
+  put-rest : (j l : ℕ) → l < 16 → j ≢ a → j ≢ b → getD s₂ (j * 16 + l) 0 ≡ getD s (j * 16 + l) 0
+  put-rest j l i d e = q .rest j l i e ∙ p .rest j l i d
 
-  node-behind : (j : ℕ) → v ≤ j → getD node' j 128 ≡ getD node j 128
-  node-behind j h =
-      by-cases (decLt j 96)
-      (λ i. held node' 128 0 j (omega (arith, p .size)) ∙ p .behind j h ∙ held node 0 128 j (omega arith))
-      (λ i. List·getD-eq-default node' 128 (omega (arith, p .size)) ∙ sym (List·getD-eq-default node 128 (omega arith)))
-
-  class-joined : (j : ℕ) → nodesForm node' rows .class j ≡ renumber b a (nodesForm node rows .class j)
-  class-joined j =
-      by-cases (ℕ-discrete j a)
-      (λ e.
-      rw e
-      (ap (λ x. byteClass x a) node-a
-      ∙ class-kind k a small
-      ∙ sym (ap (renumber b a) (ha .1) ∙ renumber-miss b a a (λ q. omega arith))))
-      (λ x.
-      by-cases (ℕ-discrete j b)
-      (λ e.
-      rw e
-      (ap (λ y. byteClass y b) node-b ∙ class-number (a + 128) b (omega arith) ∙ number a ∙ sym (renumber-hit b a _ (hb .1))))
-      (λ y.
-      by-cases (decLt j v)
-      (λ h. ap (λ z. byteClass z j) (node-inside j h x y) ∙ renumbered-class b a (getD node j 128) j y)
-      (λ h.
-      let zero-class = d .well .class-rest j (omega arith) in
-      ap (λ z. byteClass z j) (node-behind j (omega arith))
-      ∙ zero-class
-      ∙ sym (ap (renumber b a) zero-class ∙ renumber-miss b a 0 (λ e. omega arith)))))
-    where
-      number : (m : ℕ) → m + 128 - 128 ≡ m
-      number m = omega arith
-
-  kind-joined : (j : ℕ) → j ≢ a → j ≢ b → nodesForm node' rows .kind j ≡ nodesForm node rows .kind j
-  kind-joined j x y =
-      by-cases (decLt j v)
-      (λ h. ap byteKind (node-inside j h x y) ∙ renumbered-kind b a (getD node j 128) j y)
-      (λ h. ap byteKind (node-behind j (omega arith)))
-
-  pub joined-parts :
-      (row rows' : List ℕ) → RowsJoined rows v a b row rows'
-      → ((l : ℕ) → l < 16 → getD row l 0 ≡ knownOf (nodesForm node rows .link a l) (nodesForm node rows .link b l))
-      → Joined (nodesForm node rows) a b k (nodesForm node' rows')
-  joined-parts row rows' r known =
+  -- ... and the rows renumbered
+  pub rows-joined : {r : List ℕ} → Renumbered (take (16 * v) s₂) b a r → RowsJoined s v a b (r ++ drop (16 * v) s₂)
+  rows-joined {r} h =
+      let room : 16 * v ≤ length s₂ = omega (arith, p .size, q .size) in
       record {
-        class = class-joined;
-        kind-a = ap byteKind node-a ∙ kind-kind k small;
-        kind-b = ap byteKind node-b ∙ kind-number (a + 128) (omega arith);
-        kind-rest = kind-joined;
-        link-a = λ l i. r .at-a l i ∙ ap (renumber b a) (known l i);
-        link-b = r .at-b;
-        link-rest = λ j l i x y.
-            by-cases (decLt j v)
-            (λ h. r .inside j l i h x y)
-            (λ h.
-            let zero-row = d .well .link-rest j l (λ s. omega (arith, s .0)) i in
-            r .behind j l i (omega arith)
-            ∙ zero-row
-            ∙ sym (ap (renumber b a) zero-row ∙ renumber-miss b a 0 (λ e. omega arith)));
+        at-a = λ l i. front-inside s₂ r room h (a * 16 + l) (omega arith) ∙ ap (renumber b a) (put-a l i);
+        at-b = λ l i.
+            front-inside s₂ r room h (b * 16 + l) (omega arith)
+            ∙ ap (renumber b a) (put-b l i)
+            ∙ renumber-miss b a 0 (λ e. omega arith);
+        inside = λ j l i k d e.
+            front-inside s₂ r room h (j * 16 + l) (omega arith) ∙ ap (renumber b a) (put-rest j l i d e);
+        behind = λ j l i k.
+            front-behind s₂ r room h (j * 16 + l) (omega arith) ∙ put-rest j l i (λ e. omega arith) (λ e. omega arith);
       }
 
-pub kind-parts :
-    (node rows : List ℕ) (a k : ℕ) {m : ℕ} → length node ≡ 96 → a < 96 → nodesForm node rows .class a ≡ a → k < 128 → k ≡ m
-    → KindSet (nodesForm node rows) a m (nodesForm (set node a k) rows)
-kind-parts node rows a k size h e small q =
-    let here : getD (set node a k) a 128 ≡ k = getD-set-same node a k 128 (omega arith) in
+  -- ... or not, where none names b
+  pub rows-joined-unnamed : Unnamed b s → RowsJoined s v a b s₂
+  rows-joined-unnamed free =
+      record {
+        at-a = λ l i. put-a l i ∙ sym (renumber-miss b a _ (known-free (free a l i) (free b l i)));
+        at-b = put-b;
+        inside = λ j l i k d e. put-rest j l i d e ∙ sym (renumber-miss b a _ (free j l i));
+        behind = λ j l i k. put-rest j l i (λ e. omega arith) (λ e. omega arith);
+      }
+    where
+      known-free : {x y : ℕ} → x ≢ b → y ≢ b → knownOf x y ≢ b
+      known-free {x} {y} dx dy e =
+          by-cases (ℕ-discrete x unknown) (λ u. dy (sym (known-second x y u) ∙ e)) (λ d. dx (sym (known-first x y d) ∙ e))
+
+-- beyond the end both lists are 0, which is no b
+renumbered-at : {s : List ℕ} {b a : ℕ} {t : List ℕ} → a < b → Renumbered s b a t → (i : ℕ) → getD t i 0 ≡ renumber b a (getD s i 0)
+renumbered-at {s} {b} {a} {t} less r i =
+    by-cases (decLt i (length s))
+    (λ h. r .at i h)
+    (λ h.
+    List·getD-eq-default t 0 (omega (arith, r .size))
+    ∙ sym (ap (renumber b a) (List·getD-eq-default s 0 (omega arith)) ∙ renumber-miss b a 0 (λ e. omega arith)))
+
+-- the classes, kinds and rows joined, as a form
+pub joined-parts :
+    {n v : ℕ} (class kind rows : List ℕ) {a b k : ℕ} → Joinable n v class kind rows a b
+    → (class' rows' : List ℕ) → Renumbered class b a class' → RowsJoined rows v a b rows'
+    → Joined (listForm class kind rows) a b k (listForm class' (set (set kind a k) b 0) rows')
+joined-parts {n} {v} class kind rows {a} {b} {k} d class' rows' c r =
+    let inside : b < length kind = omega (arith, d .lent .kind-size, d .high-smallest .0, d .nodes) in
+    let less = d .less in
     record {
-      class = λ j.
-          by-cases (ℕ-discrete j a)
-          (λ i. rw i (ap (λ x. byteClass x a) here ∙ class-kind k a small ∙ sym e))
-          (λ d. ap (λ x. byteClass x j) (getD-set-other node a j k 128 d));
-      kind-a = ap byteKind here ∙ kind-kind k small ∙ q;
-      kind-rest = λ j d. ap byteKind (getD-set-other node a j k 128 d);
+      class = renumbered-at less c;
+      kind-a = getD-set-other (set kind a k) b a 0 0 (λ e. omega arith) ∙ getD-set-same kind a k 0 (omega arith);
+      kind-b = getD-set-same (set kind a k) b 0 0 (simp length-set inside);
+      kind-rest = λ j x y. getD-set-other (set kind a k) b j 0 0 y ∙ getD-set-other kind a j k 0 x;
+      link-a = r .at-a;
+      link-b = r .at-b;
+      link-rest = λ j l i x y.
+          by-cases (decLt j v)
+          (λ h. r .inside j l i h x y)
+          (λ h.
+          let zero-row = d .well .link-rest j l (λ s. omega (arith, s .0)) i in
+          r .behind j l i (omega arith)
+          ∙ zero-row
+          ∙ sym (ap (renumber b a) zero-row ∙ renumber-miss b a 0 (λ e. omega arith)));
+    }
+
+pub kind-parts :
+    (class kind rows : List ℕ) (a k : ℕ) → length kind ≡ 96 → a < 96
+    → KindSet (listForm class kind rows) a k (listForm class (set kind a k) rows)
+kind-parts class kind rows a k size h =
+    record {
+      class = λ j. refl;
+      kind-a = getD-set-same kind a k 0 (omega arith);
+      kind-rest = λ j d. getD-set-other kind a j k 0 d;
       link = λ j l i. refl;
     }
 
 pub link-parts :
-    (node rows : List ℕ) (a l c : ℕ) → length rows ≡ rowsSize → a < 96 → l < 16
-    → LinkSet (nodesForm node rows) a l c (nodesForm node (set rows (a * 16 + l) c))
-link-parts node rows a l c size ha hl =
+    (class kind rows : List ℕ) (a l c : ℕ) → length rows ≡ rowsSize → a < 96 → l < 16
+    → LinkSet (listForm class kind rows) a l c (listForm class kind (set rows (a * 16 + l) c))
+link-parts class kind rows a l c size ha hl =
     record {
       class = λ j. refl;
       kind = λ j. refl;

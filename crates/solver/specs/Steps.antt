@@ -7,11 +7,11 @@ use mathlib.Core.Bool.{Bool, true, false, cond}
 use mathlib.Core.List.{List}
 use Prim.Native.Nat.{ℕ, _+_, _*_, _<_, _≤_}
 use lib.Dec.{eqb}
-use lib.ListN.{length, getD}
+use lib.ListN.{length, getD, set}
 use Rattle.meaning.specs.Picture.{Picture, Placing, Fact, All}
-use Rattle.meaning.specs.Form.{Form, unknown, classes}
+use Rattle.meaning.specs.Form.{Form, listForm, unknown, classes}
 use Rattle.meaning.specs.Solving.{Smallest, Well, Models}
-use Rattle.solver.specs.Unpacked.{nodesForm, rowsSize, Ready}
+use Rattle.solver.specs.Unpacked.{Lent, Ready}
 
 -- number b becomes a, any other stays
 abbrev pub renumber : ℕ → ℕ → ℕ → ℕ
@@ -40,20 +40,16 @@ pub record RowPut (s : List ℕ) (j : ℕ) (row : List ℕ) (t : List ℕ) : Typ
   pub at : (l : ℕ) → l < 16 → getD t (j * 16 + l) 0 ≡ getD row l 0
   pub rest : (i l : ℕ) → l < 16 → i ≢ j → getD t (i * 16 + l) 0 ≡ getD s (i * 16 + l) 0
 
--- t is s with the class b joined to a, which has kind k from then on, among the first v nodes
-pub record NodesJoined (s : List ℕ) (v a b k : ℕ) (t : List ℕ) : Type 0 where
-  pub size : length t ≡ length s
-  pub at-a : getD t a 0 ≡ k
-  pub at-b : getD t b 0 ≡ a + 128
-  pub inside : (j : ℕ) → j < v → j ≢ a → j ≢ b → getD t j 0 ≡ renumber (b + 128) (a + 128) (getD s j 0)
-  pub behind : (j : ℕ) → v ≤ j → getD t j 0 ≡ getD s j 0
-
--- t is s with `row` for a, none for b, and number b become a in the first v rows
-pub record RowsJoined (s : List ℕ) (v a b : ℕ) (row t : List ℕ) : Type 0 where
-  pub at-a : (l : ℕ) → l < 16 → getD t (a * 16 + l) 0 ≡ renumber b a (getD row l 0)
+-- t is s with the links that a or b knows in the row of a, none in that of b, and number b become a in the first v rows
+pub record RowsJoined (s : List ℕ) (v a b : ℕ) (t : List ℕ) : Type 0 where
+  pub at-a : (l : ℕ) → l < 16 → getD t (a * 16 + l) 0 ≡ renumber b a (knownOf (getD s (a * 16 + l) 0) (getD s (b * 16 + l) 0))
   pub at-b : (l : ℕ) → l < 16 → getD t (b * 16 + l) 0 ≡ 0
   pub inside : (j l : ℕ) → l < 16 → j < v → j ≢ a → j ≢ b → getD t (j * 16 + l) 0 ≡ renumber b a (getD s (j * 16 + l) 0)
   pub behind : (j l : ℕ) → l < 16 → v ≤ j → getD t (j * 16 + l) 0 ≡ getD s (j * 16 + l) 0
+
+-- no row names b
+abbrev pub Unnamed : ℕ → List ℕ → Type 0
+Unnamed b rows = (j l : ℕ) → l < 16 → getD rows (j * 16 + l) 0 ≢ b
 
 -- T is S with the class of b joined to that of a, which has kind k from then on
 pub record Joined (S : Form) (a b k : ℕ) (T : Form) : Type 0 where
@@ -111,14 +107,19 @@ pub record Pushed (m : ℕ) (x y : ℕ → ℕ) (left right : List ℕ) (size : 
       (l : ℕ) → l < m → x l ≢ unknown → y l ≢ unknown
       → (i : ℕ) × (i < size') × (getD left' i 0 ≡ x l) × (getD right' i 0 ≡ y l)
 
--- what joining asks for: a lawful table and a well-formed form, two classes in order, and room for 16 pairs in place of the last
-pub record JoinReady (n v : ℕ) (table node rows : List ℕ) (low high : ℕ) (left right : List ℕ) (size : ℕ) : Type 0 where
-  pub node-size : length node ≡ 96
-  pub rows-size : length rows ≡ rowsSize
-  pub ready : Ready n v table (nodesForm node rows)
+-- two classes in order, of a well-formed form of v nodes
+pub record Joinable (n v : ℕ) (class kind rows : List ℕ) (low high : ℕ) : Type 0 where
+  pub lent : Lent class kind rows
+  pub nodes : v ≤ 96
+  pub well : Well n v (listForm class kind rows)
   pub less : low < high
-  pub low-smallest : Smallest v (nodesForm node rows) low
-  pub high-smallest : Smallest v (nodesForm node rows) high
+  pub low-smallest : Smallest v (listForm class kind rows) low
+  pub high-smallest : Smallest v (listForm class kind rows) high
+
+-- what a step asks for: a lawful table, two classes that can be joined, and room for 16 pairs in place of the last
+pub record JoinReady (n v : ℕ) (table class kind rows : List ℕ) (low high : ℕ) (left right : List ℕ) (size : ℕ) : Type 0 where
+  pub ready : Ready n v table (listForm class kind rows)
+  pub joinable : Joinable n v class kind rows low high
   pub some : 0 < size
   pub room-left : size + 15 ≤ length left
   pub room-right : size + 15 ≤ length right
@@ -138,3 +139,26 @@ pub record JoinStep
     : Type 0 where
   pub done : ok ≡ true → JoinDone meet S low high left right size T left' right' size'
   pub clash : ok ≡ false → meet (S .kind low) (S .kind high) ≡ 0
+
+-- two classes joined from which nothing more follows, or the form as it was
+pub record JoinedAlone (meet : ℕ → ℕ → ℕ) (S : Form) (low high : ℕ) (yes : Bool) (T : Form) : Type 0 where
+  pub some : yes ≡ true → meet (S .kind low) (S .kind high) ≢ 0
+  pub joined : yes ≡ true → Joined S low high (meet (S .kind low) (S .kind high)) T
+  pub apart : yes ≡ true → (l : ℕ) → l < 16 → S .link low l ≢ unknown → S .link high l ≢ unknown → ⊥
+  pub kept : yes ≡ false → T ≡ S
+
+-- the kind of the class of x met with s, or nothing in common
+pub record KindMet (meet : ℕ → ℕ → ℕ) (class kind : List ℕ) (x s : ℕ) (ok : Bool) (kind' : List ℕ) : Type 0 where
+  pub some :
+      ok ≡ true
+      → let a = getD class x 0 in
+      (meet (getD kind a 0) s ≢ 0) × (kind' ≡ set kind a (meet (getD kind a 0) s))
+  pub none : ok ≡ false → (meet (getD kind (getD class x 0) 0) s ≡ 0) × (kind' ≡ kind)
+
+-- link l of the class of x set to the class of y, or known already
+pub record LinkPut (class rows : List ℕ) (x l y : ℕ) (ok : Bool) (rows' : List ℕ) : Type 0 where
+  pub free :
+      ok ≡ true
+      → let at = getD class x 0 * 16 + l in
+      (getD rows at 0 ≡ unknown) × (rows' ≡ set rows at (getD class y 0))
+  pub known : ok ≡ false → (getD rows (getD class x 0 * 16 + l) 0 ≢ unknown) × (rows' ≡ rows)

@@ -1,23 +1,27 @@
 // The solver: one fact more, and all that follows from it, or a clash.
 ghost use mathlib.Core.Path.{_≡_};
 ghost use mathlib.Core.Logic.{_≢_};
-ghost use mathlib.Core.Bool.{true};
+ghost use mathlib.Core.Bool.{true, false};
 ghost use mathlib.Core.List.{List, [], _∷_};
 ghost use Prim.Native.Nat.{ℕ, _+_, _-_, _*_, _<_, _≤_};
-ghost use lib.ListN.{getD, length};
+ghost use lib.ListN.{getD, length, set};
 ghost use Rattle.kinds.specs.Kinds.{meetAt};
-ghost use Rattle.meaning.specs.Picture.Fact.{same};
-ghost use Rattle.meaning.specs.Form.{classes};
+ghost use Rattle.meaning.specs.Picture.Fact.{has-kind, same, leads};
+ghost use Rattle.meaning.specs.Form.{listForm, unknown, classes};
 ghost use Rattle.meaning.specs.Solving.{InRange};
-ghost use Rattle.solver.specs.Unpacked.{classAt, nodesForm, formOf, rowsSize, Proper, nodeFact, Ready, Took};
-ghost use Rattle.solver.specs.Steps.{renumber, knownOf, bothKnown, InOrder};
-ghost use Rattle.solver.specs.Steps.{Renumbered, RowOf, RowPut, NodesJoined, RowsJoined, Pushed, JoinReady, JoinStep};
+ghost use Rattle.solver.specs.Unpacked.{formOf, rowsSize, Lent, Named, nodeFact, Ready, Took, TookPlainly};
+ghost use Rattle.solver.specs.Steps.{renumber, knownOf, bothKnown, InOrder, Renumbered, RowOf, RowPut, RowsJoined, Unnamed, Joined};
+ghost use Rattle.solver.specs.Steps.{Pushed, Joinable, JoinReady, JoinStep, JoinedAlone, KindMet, LinkPut};
 
 // The unpacked solved form of up to 96 nodes: the rig's joints first, then those of a rule. What is known of the nodes goes by value; the
 // rows, 16 links for each node, 255 for a link not known, are lent beside it.
 pub struct Solved {
-    // The kind where the node is the smallest of its class, else 128 and the class. Behind the nodes it is 128.
-    pub node: [u8; 96],
+    // The class number of each node, the smallest node of its class; 0 behind the nodes.
+    pub class: [u8; 96],
+    // The kind of each class, at its smallest node; 0 at any other.
+    pub kind: [u8; 96],
+    // From this node on no row names one.
+    pub top: u8,
     // False for a clash: then nothing is said of the nodes and the rows.
     pub ok: bool,
 }
@@ -33,15 +37,6 @@ pub enum NodeFact {
 pub struct Fold {
     pub form: Solved,
     pub at: usize,
-}
-
-// The class of node x.
-pub fn class_at(node: &[u8; 96], x: u8) -> u8
-    requires { ⌜ (x < 96) × (length (now node) ≡ 96) ⌝ }
-    ensures { λ r. ⌜ r ≡ classAt (now (node .entry)) x ⌝ }
-{
-    let held = node[x as usize];
-    if held < 128 { x } else { held - 128 }
 }
 
 // b becomes a, any other number stays.
@@ -111,7 +106,7 @@ fn merged(x: [u8; 16], y: [u8; 16]) -> [u8; 16]
 }
 
 // 1 where both links are known, else 0.
-fn both_known(x: u8, y: u8) -> usize
+fn both_known(x: u8, y: u8) -> u8
     ensures { λ r. ⌜ (r ≡ bothKnown x y) × (r ≤ 1) ⌝ }
 {
     if x == 255 {
@@ -133,7 +128,7 @@ fn pushed(x: [u8; 16], y: [u8; 16], left: &mut [u8], right: &mut [u8], size: usi
     while l < 16 {
         left[count] = x[l];
         right[count] = y[l];
-        count += both_known(x[l], y[l]);
+        count += both_known(x[l], y[l]) as usize;
         l += 1;
     }
     count
@@ -151,23 +146,47 @@ fn in_order(a: u8, b: u8) -> Two
 }
 
 // The class b is joined to a, which has kind k from then on.
-fn join_nodes(node: &mut [u8], v: usize, a: u8, b: u8, k: u8)
-    requires { ⌜ (length (now node) ≡ 96) × (v ≤ 96) × (a < b) × (b < v) ⌝ }
-    ensures { λ u. ⌜ NodesJoined (now (node .entry)) v a b k (now (node .exit)) ⌝ }
+fn join_classes(class: &mut [u8], kind: &mut [u8], a: u8, b: u8, k: u8)
+    requires { ⌜ (length (now kind) ≡ 96) × (a < 96) × (b < 96) ⌝ }
+    ensures { λ _. ⌜ Renumbered (now (class .entry)) b a (now (class .exit)) × (now (kind .exit) ≡ set (set (now (kind .entry)) a k) b 0) ⌝ }
 {
-    renumber_all(&mut node[..v], b + 128, a + 128);
-    node[a as usize] = k;
-    node[b as usize] = a + 128;
+    renumber_all(class, b, a);
+    kind[a as usize] = k;
+    kind[b as usize] = 0;
 }
 
-// The row of a becomes row, that of b is given up, and every link to b leads to a.
-fn join_rows(rows: &mut [u8], v: usize, a: u8, b: u8, row: [u8; 16])
-    requires { ⌜ (length (now rows) ≡ rowsSize) × (v ≤ 96) × (a < b) × (b < v) ⌝ }
-    ensures { λ u. ⌜ RowsJoined (now (rows .entry)) v a b row (now (rows .exit)) ⌝ }
+// The row of a gets the links that b knows and a does not, that of b is given up, and every link to b leads to a. `named` may be false
+// where no row names b: then there is none.
+fn join_rows(rows: &mut [u8], v: usize, a: u8, b: u8, named: bool)
+    requires { ⌜ (length (now rows) ≡ rowsSize) × (v ≤ 96) × (a < b) × (b < v) ⌝ ∗ ⌜ (named ≡ false → Unnamed b (now rows)) ⌝ }
+    ensures { λ _. ⌜ RowsJoined (now (rows .entry)) v a b (now (rows .exit)) ⌝ }
 {
-    put_row(rows, a as usize, row);
+    let x = row_of(rows, a as usize);
+    let y = row_of(rows, b as usize);
+    put_row(rows, a as usize, merged(x, y));
     put_row(rows, b as usize, [0u8; 16]);
-    renumber_all(&mut rows[..16 * v], b, a);
+    if named {
+        renumber_all(&mut rows[..16 * v], b, a);
+    }
+}
+
+// The class high is joined to low, which has kind k from then on.
+fn join_two(
+    class: &mut [u8],
+    kind: &mut [u8],
+    rows: &mut [u8],
+    v: usize,
+    low: u8,
+    high: u8,
+    k: u8,
+    named: bool,
+)
+    requires { ⌜ ((n : ℕ) × Joinable n v (now class) (now kind) (now rows) low high) ⌝ ∗ ⌜ (named ≡ false → Unnamed high (now rows)) ⌝ }
+    ensures { λ _. ⌜ Joined (listForm (now (class .entry)) (now (kind .entry)) (now (rows .entry))) low high k
+        (listForm (now (class .exit)) (now (kind .exit)) (now (rows .exit))) ⌝ }
+{
+    join_rows(rows, v, low, high, named);
+    join_classes(class, kind, low, high, k);
 }
 
 // What joining two classes makes: the new number of pairs, or a clash.
@@ -179,7 +198,8 @@ struct Step {
 // The last pair is taken off, the classes low and high are joined, and the ends of the links known in both are new pairs;
 // or the two kinds have nothing in common.
 fn join_step(
-    node: &mut [u8],
+    class: &mut [u8],
+    kind: &mut [u8],
     rows: &mut [u8],
     table: &[u8],
     n: usize,
@@ -190,13 +210,13 @@ fn join_step(
     right: &mut [u8],
     size: usize,
 ) -> Step
-    requires { ⌜ JoinReady n v (now table) (now node) (now rows) low high (now left) (now right) size ⌝ }
-    ensures { λ r. ⌜ JoinStep (meetAt n (now (table .entry))) (nodesForm (now (node .entry)) (now (rows .entry))) low high
+    requires { ⌜ JoinReady n v (now table) (now class) (now kind) (now rows) low high (now left) (now right) size ⌝ }
+    ensures { λ r. ⌜ JoinStep (meetAt n (now (table .entry))) (listForm (now (class .entry)) (now (kind .entry)) (now (rows .entry))) low high
         (now (left .entry)) (now (right .entry)) (size - 1)
-        (r .ok) (nodesForm (now (node .exit)) (now (rows .exit))) (now (left .exit)) (now (right .exit)) (r .size) ⌝ }
+        (r .ok) (listForm (now (class .exit)) (now (kind .exit)) (now (rows .exit))) (now (left .exit)) (now (right .exit)) (r .size) ⌝ }
 {
-    let i = node[low as usize];
-    let j = node[high as usize];
+    let i = kind[low as usize];
+    let j = kind[high as usize];
     let k = kinds::meet(table, n, i as usize, j as usize);
     if k == 0 {
         return Step { ok: false, size };
@@ -204,12 +224,48 @@ fn join_step(
     let x = row_of(rows, low as usize);
     let y = row_of(rows, high as usize);
     let count = pushed(x, y, left, right, size - 1);
-    join_nodes(node, v, low, high, k);
-    join_rows(rows, v, low, high, merged(x, y));
+    join_two(class, kind, rows, v, low, high, k, true);
     Step {
         ok: true,
         size: count,
     }
+}
+
+// The kind of x's class is met with s. False where they have nothing in common: then nothing is changed.
+fn met_kind(class: &[u8], kind: &mut [u8], table: &[u8], n: usize, x: u8, s: u8) -> bool
+    requires { ⌜ (length (now class) ≡ 96) × (length (now kind) ≡ 96) × (x < 96) × (getD (now class) x 0 < 96) ⌝ }
+    requires { ⌜ (n ≤ 64) × (length (now table) ≡ n * n) × (getD (now kind) (getD (now class) x 0) 0 < n) × (s < n) ⌝ }
+    ensures { λ r. ⌜ KindMet (meetAt n (now (table .entry))) (now (class .entry)) (now (kind .entry)) x s r (now (kind .exit)) ⌝ }
+{
+    let a = class[x as usize] as usize;
+    let known = kind[a];
+    let met = kinds::meet(table, n, known as usize, s as usize);
+    if met == 0 {
+        return false;
+    }
+    kind[a] = met;
+    true
+}
+
+// Where link l of x's class leads.
+fn end_of(class: &[u8], rows: &[u8], x: u8, l: u8) -> u8
+    requires { ⌜ (length (now class) ≡ 96) × (length (now rows) ≡ rowsSize) × (x < 96) × (getD (now class) x 0 < 96) × (l < 16) ⌝ }
+    ensures { λ r. ⌜ r ≡ getD (now (rows .entry)) (getD (now (class .entry)) x 0 * 16 + l) 0 ⌝ }
+{
+    rows[class[x as usize] as usize * 16 + l as usize]
+}
+
+// Link l of x's class leads to y's class. False where it was known already: then nothing is changed.
+fn put_link(class: &[u8], rows: &mut [u8], x: u8, l: u8, y: u8) -> bool
+    requires { ⌜ (length (now class) ≡ 96) × (length (now rows) ≡ rowsSize) × (x < 96) × (getD (now class) x 0 < 96) × (l < 16) × (y < 96) ⌝ }
+    ensures { λ r. ⌜ LinkPut (now (class .entry)) (now (rows .entry)) x l y r (now (rows .exit)) ⌝ }
+{
+    let at = class[x as usize] as usize * 16 + l as usize;
+    if rows[at] != 255 {
+        return false;
+    }
+    rows[at] = class[y as usize];
+    true
 }
 
 impl Solved {
@@ -218,25 +274,27 @@ impl Solved {
     fn with_same(self, rows: &mut [u8], table: &[u8], n: usize, v: usize, x: u8, y: u8) -> Solved
         requires { ⌜ Ready n v (now table) (formOf self (now rows)) × (x < v) × (y < v) × (length (now rows) ≡ rowsSize) ⌝ }
         ensures { λ r. ⌜ Took n (meetAt n (now (table .entry))) v (formOf self (now (rows .entry))) (same x y ∷ [])
-            (r .ok) (formOf r (now (rows .exit))) ⌝ }
+            (r .ok) (formOf r (now (rows .exit))) × (r .top ≡ v) ⌝ }
     {
         let mut left = [0u8; 1552];
         let mut right = [0u8; 1552];
         left[0] = x;
         right[0] = y;
         let mut size = 1;
-        let mut node = self.node;
+        let mut class = self.class;
+        let mut kind = self.kind;
         while 0 < size {
             let p = left[size - 1];
             let q = right[size - 1];
-            let a = class_at(&node, p);
-            let b = class_at(&node, q);
+            let a = class[p as usize];
+            let b = class[q as usize];
             if a == b {
                 size -= 1;
             } else {
                 let o = in_order(a, b);
                 let s = join_step(
-                    &mut node,
+                    &mut class,
+                    &mut kind,
                     rows,
                     table,
                     n,
@@ -248,16 +306,25 @@ impl Solved {
                     size,
                 );
                 if !s.ok {
-                    return Solved { node, ok: false };
+                    return Solved {
+                        class,
+                        kind,
+                        top: v as u8,
+                        ok: false,
+                    };
                 }
                 size = s.size;
             }
         }
-        Solved { node, ok: true }
+        Solved {
+            class,
+            kind,
+            top: v as u8,
+            ok: true,
+        }
     }
 
-    // The form with one fact more and all that follows from it, or a clash. It is copied in once, changed in place and copied out once, at
-    // the one exit; only where classes are to be joined is it handed on.
+    // The form with one fact more and all that follows from it, or a clash.
     pub fn with_fact(
         self,
         rows: &mut [u8],
@@ -269,60 +336,221 @@ impl Solved {
         requires { ⌜ (self .ok ≡ true) × (length (now rows) ≡ rowsSize)
             × Ready n v (now table) (formOf self (now rows)) × InRange n v (nodeFact fact) ⌝ }
         ensures { λ r. ⌜ Took n (meetAt n (now (table .entry))) v (formOf self (now (rows .entry))) (nodeFact fact ∷ [])
-            (r .ok) (formOf r (now (rows .exit))) ⌝ }
+            (r .ok) (formOf r (now (rows .exit))) × (r .top ≡ v) ⌝ }
     {
-        let mut form = self;
         match fact {
-            // The kind of x's class is met with s; a clash where they have nothing in common.
             NodeFact::Kind(x, s) => {
-                let a = class_at(&form.node, x);
-                let known = form.node[a as usize];
-                let met = kinds::meet(table, n, known as usize, s as usize);
-                if met == 0 {
-                    form.ok = false;
-                } else {
-                    form.node[a as usize] = met;
+                let class = self.class;
+                let mut kind = self.kind;
+                let ok = met_kind(&class, &mut kind, table, n, x, s);
+                Solved {
+                    class,
+                    kind,
+                    top: v as u8,
+                    ok,
                 }
             }
-            NodeFact::Same(x, y) => {
-                if class_at(&form.node, x) != class_at(&form.node, y) {
-                    form = form.with_same(rows, table, n, v, x, y);
-                }
-            }
-            // Link l of x's class leads to y's class; where it is known already, its end and y are made one.
+            NodeFact::Same(x, y) => self.with_same(rows, table, n, v, x, y),
+            // Where the link is known already, its end and y are made one.
             NodeFact::Link(x, l, y) => {
-                let at = class_at(&form.node, x) as usize * 16 + l as usize;
-                let end = rows[at];
-                let c = class_at(&form.node, y);
-                if end == 255 {
-                    rows[at] = c;
-                } else {
-                    if class_at(&form.node, end) != c {
-                        form = form.with_same(rows, table, n, v, end, y);
-                    }
+                let class = self.class;
+                if put_link(&class, rows, x, l, y) {
+                    let kind = self.kind;
+                    return Solved {
+                        class,
+                        kind,
+                        top: v as u8,
+                        ok: true,
+                    };
                 }
+                let end = end_of(&class, rows, x, l);
+                self.with_same(rows, table, n, v, end, y)
             }
         }
-        form
     }
 }
 
-// 1 where the node that holds x is the smallest of its class, else 0.
-fn is_smallest(x: u8) -> usize
-    ensures { λ r. ⌜ (x < 128 → r ≡ 1) × (128 ≤ x → r ≡ 0) × (r ≤ 1) ⌝ }
+// Whether no link is known in both rows. All are looked at, and the answer is given once, behind them.
+fn none_in_both(x: [u8; 16], y: [u8; 16]) -> bool
+    ensures { λ r. ⌜ (r ≡ true → (l : ℕ) → l < 16 → getD x l 0 ≢ unknown → getD y l 0 ≢ unknown → ⊥) ⌝ }
 {
-    if x < 128 { 1 } else { 0 }
+    let mut any = 0u8;
+    for l in 0..16 {
+        any = any | both_known(x[l], y[l]);
+    }
+    any == 0
+}
+
+// The classes low and high joined, where nothing more follows from it. A "no" changes nothing.
+fn joined_alone(
+    class: &mut [u8],
+    kind: &mut [u8],
+    rows: &mut [u8],
+    top: u8,
+    table: &[u8],
+    n: usize,
+    v: usize,
+    low: u8,
+    high: u8,
+) -> bool
+    requires { ⌜ Ready n v (now table) (listForm (now class) (now kind) (now rows)) × Named top (listForm (now class) (now kind) (now rows)) ⌝ }
+    requires { ⌜ Joinable n v (now class) (now kind) (now rows) low high ⌝ }
+    ensures { λ r. ⌜ JoinedAlone (meetAt n (now (table .entry))) (listForm (now (class .entry)) (now (kind .entry)) (now (rows .entry))) low high
+        r (listForm (now (class .exit)) (now (kind .exit)) (now (rows .exit))) ⌝ }
+{
+    let i = kind[low as usize];
+    let j = kind[high as usize];
+    let k = kinds::meet(table, n, i as usize, j as usize);
+    if k == 0 {
+        return false;
+    }
+    let x = row_of(rows, low as usize);
+    let y = row_of(rows, high as usize);
+    if !none_in_both(x, y) {
+        return false;
+    }
+    join_two(class, kind, rows, v, low, high, k, high < top);
+    true
+}
+
+// x and y made one, where nothing more follows from it. A "no" changes nothing.
+fn made_one(
+    class: &mut [u8],
+    kind: &mut [u8],
+    rows: &mut [u8],
+    top: u8,
+    table: &[u8],
+    n: usize,
+    v: usize,
+    x: u8,
+    y: u8,
+) -> bool
+    requires { ⌜ Ready n v (now table) (listForm (now class) (now kind) (now rows)) × Named top (listForm (now class) (now kind) (now rows)) ⌝ }
+    requires { ⌜ Lent (now class) (now kind) (now rows) × (x < v) × (y < v) ⌝ }
+    ensures { λ r. ⌜ TookPlainly n (meetAt n (now (table .entry))) v (listForm (now (class .entry)) (now (kind .entry)) (now (rows .entry))) (same x y)
+        r (listForm (now (class .exit)) (now (kind .exit)) (now (rows .exit)))
+        × Named top (listForm (now (class .exit)) (now (kind .exit)) (now (rows .exit))) ⌝ }
+{
+    let a = class[x as usize];
+    let b = class[y as usize];
+    if a == b {
+        return true;
+    }
+    let o = in_order(a, b);
+    joined_alone(class, kind, rows, top, table, n, v, o.0, o.1)
+}
+
+// What taking a fact in place makes: whether it was taken, and from which node on no row names one.
+pub struct Plain {
+    pub yes: bool,
+    pub top: u8,
+}
+
+// From which node on no row names one, once one names c.
+fn above(top: u8, c: u8) -> u8
+    requires { ⌜ c < 96 ⌝ }
+    ensures { λ r. ⌜ (top ≤ r) × (c < r) ⌝ }
+{
+    if c < top { top } else { c + 1 }
+}
+
+// One fact taken in place, where at most two classes are joined and nothing more follows from it. A "no" says nothing, and changes nothing.
+pub fn take_plainly(
+    class: &mut [u8],
+    kind: &mut [u8],
+    rows: &mut [u8],
+    top: u8,
+    table: &[u8],
+    n: usize,
+    v: usize,
+    fact: NodeFact,
+) -> Plain
+    requires { ⌜ Ready n v (now table) (listForm (now class) (now kind) (now rows)) × Named top (listForm (now class) (now kind) (now rows)) ⌝ }
+    requires { ⌜ Lent (now class) (now kind) (now rows) × InRange n v (nodeFact fact) ⌝ }
+    ensures { λ r. ⌜ TookPlainly n (meetAt n (now (table .entry))) v (listForm (now (class .entry)) (now (kind .entry)) (now (rows .entry))) (nodeFact fact)
+        (r .yes) (listForm (now (class .exit)) (now (kind .exit)) (now (rows .exit)))
+        × Named (r .top) (listForm (now (class .exit)) (now (kind .exit)) (now (rows .exit))) ⌝ }
+{
+    match fact {
+        NodeFact::Kind(x, s) => {
+            let yes = met_kind(class, kind, table, n, x, s);
+            Plain { yes, top }
+        }
+        NodeFact::Same(x, y) => {
+            let yes = made_one(class, kind, rows, top, table, n, v, x, y);
+            Plain { yes, top }
+        }
+        NodeFact::Link(x, l, y) => {
+            let c = class[y as usize];
+            if put_link(class, rows, x, l, y) {
+                return Plain {
+                    yes: true,
+                    top: above(top, c),
+                };
+            }
+            let end = end_of(class, rows, x, l);
+            if end == c {
+                return Plain { yes: true, top };
+            }
+            let yes = made_one(class, kind, rows, top, table, n, v, end, y);
+            Plain { yes, top }
+        }
+    }
+}
+
+// One fact and all that follows from it, by value, and the nodes written back. False for a clash: then nothing is said of the nodes and the
+// rows.
+pub fn take_wholly(
+    class: &mut [u8],
+    kind: &mut [u8],
+    rows: &mut [u8],
+    table: &[u8],
+    n: usize,
+    v: usize,
+    fact: NodeFact,
+) -> bool
+    requires { ⌜ Ready n v (now table) (listForm (now class) (now kind) (now rows)) ⌝ }
+    requires { ⌜ Lent (now class) (now kind) (now rows) × InRange n v (nodeFact fact) ⌝ }
+    ensures { λ r. ⌜ Took n (meetAt n (now (table .entry))) v (listForm (now (class .entry)) (now (kind .entry)) (now (rows .entry))) (nodeFact fact ∷ [])
+        r (listForm (now (class .exit)) (now (kind .exit)) (now (rows .exit))) ⌝ }
+{
+    let mut own_class = [0u8; 96];
+    let mut own_kind = [0u8; 96];
+    runs::copy(&mut own_class, class);
+    runs::copy(&mut own_kind, kind);
+    let form = Solved {
+        class: own_class,
+        kind: own_kind,
+        top: v as u8,
+        ok: true,
+    };
+    let next = form.with_fact(rows, table, n, v, fact);
+    if !next.ok {
+        return false;
+    }
+    let next_class = next.class;
+    let next_kind = next.kind;
+    runs::copy(class, &next_class);
+    runs::copy(kind, &next_kind);
+    true
+}
+
+// 1 where the class number x is j itself, else 0.
+fn is_smallest(x: u8, j: usize) -> usize
+    ensures { λ r. ⌜ (x ≡ j → r ≡ 1) × (x ≢ j → r ≡ 0) × (r ≤ 1) ⌝ }
+{
+    if x as usize == j { 1 } else { 0 }
 }
 
 // How many classes the nodes below v make.
-pub fn classes_in(form: Solved, v: usize) -> usize
-    requires { ⌜ (v ≤ 96) × Proper v form ⌝ }
-    ensures { λ r. ⌜ ((rows : List ℕ) → r ≡ classes (formOf form rows) v) ⌝ }
+pub fn classes_in(class: &[u8], v: usize) -> usize
+    requires { ⌜ v ≤ length (now class) ⌝ }
+    ensures { λ r. ⌜ ((kind rows : List ℕ) → r ≡ classes (listForm (now (class .entry)) kind rows) v) ⌝ }
 {
     let mut count = 0;
     let mut j = 0;
     while j < v {
-        count += is_smallest(form.node[j]);
+        count += is_smallest(class[j], j);
         j += 1;
     }
     count

@@ -1,4 +1,3 @@
-pub mod Stored
 pub mod Taking
 pub mod Solution
 pub mod OneTake

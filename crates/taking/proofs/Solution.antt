@@ -1,35 +1,31 @@
 -- The solver's answer to a packet, as the answer of taking: a clash where no picture is left, otherwise the block with the next form in
 -- it, whose classes are no more than before.
 -- Assumes nothing.
-use mathlib.Core.Path.{_≡_, refl, sym, _∙_, ap, ap₂}
-use mathlib.Core.Logic.{by-cases}
+use mathlib.Core.Path.{_≡_, sym, _∙_, ap, ap₂}
 use mathlib.Core.Bool.{true, false, true≢false, false≢true}
 use mathlib.Core.List.{List, _++_, map}
 use Prim.Native.Nat.{ℕ, _-_, _≤_}
 use native.Mathlib.Omega.{arith}
-use native.Mathlib.Decide.{decLt}
-use lib.ListN.{getD, length, List·getD-eq-default}
-use Rattle.runs.specs.Runs.{each}
-use Rattle.runs.proofs.Each.{each-at, each-length}
+use lib.ListN.{length}
 use Rattle.meaning.specs.declared.RigJoint.{RigJoint}
 use Rattle.meaning.specs.Picture.{Fact, rename}
 use Rattle.meaning.specs.Form.{Form, listForm, takenFacts, classes}
 use Rattle.meaning.specs.Rig.{Rig, meetOf, NoPicture}
-use Rattle.meaning.specs.Solving.{rigNumber, Well, Taken, Refuted}
+use Rattle.meaning.specs.Solving.{rigNumber, Taken, Refuted}
 use Rattle.meaning.specs.Asking.{Extends}
 use Rattle.meaning.proofs.SameForm.{SameForm, form-well, form-models, form-facts, form-classes, unpacked-same}
 use Rattle.meaning.proofs.Classes.{fewer-classes}
 use Rattle.meaning.proofs.Takes.{taken-means, refuted-clash}
 use Rattle.packets.specs.Facts.{rigFacts}
 use Rattle.solver.specs.declared.Solved.{Solved}
-use Rattle.solver.specs.Unpacked.{classAt, kindAt, formOf, rowsSize, Ready}
+use Rattle.solver.specs.Unpacked.{formOf, rowsSize, Ready}
 use Rattle.joints.specs.Layout.{kindsOf, jointsOf, blockForm, taken, classCount}
 use Rattle.joints.specs.Storing.{withForm}
 use Rattle.blocks.specs.Layout.{tableOf, rigOf}
 use Rattle.blocks.proofs.Shape.{GoodBlock, put-together, block-rig, block-sized}
 use Rattle.blocks.proofs.Bytes.{with-rig, stored-form, stored-good}
 use Rattle.taking.specs.Take.{After}
-use Rattle.taking.specs.Solve.{classBytes, kindBytes, Solves}
+use Rattle.taking.specs.Solve.{Solves}
 
 module _ {b : List ℕ} (g : GoodBlock b) {E : Form} (x : Extends (jointsOf b) 0 (blockForm b) E) where
   same : SameForm (blockForm b) E
@@ -47,9 +43,6 @@ module _ {b : List ℕ} (g : GoodBlock b) {E : Form} (x : Extends (jointsOf b) 0
         well = form-well same (g .well .well);
       }
 
-  pub unpacked-classes : classes E (jointsOf b) ≡ classCount b
-  unpacked-classes = sym (form-classes same (jointsOf b))
-
   module _ (facts : List (Fact RigJoint)) where
     pub refuted-answer : Refuted (kindsOf b) (meetOf (rigOf b)) (jointsOf b) E (map (rename rigNumber) facts) → NoPicture (rigOf b) (taken b ++ facts)
     refuted-answer r =
@@ -66,10 +59,10 @@ module _ {b : List ℕ} (g : GoodBlock b) {E : Form} (x : Extends (jointsOf b) 0
             );
           }
 
-      pub taken-fewer : classes T (jointsOf b) ≤ classes E (jointsOf b)
-      taken-fewer = let rig = block-rig (g .well) in fewer-classes (rig .lawful) (rig .some) (form-well same (g .well .well)) t
+      pub taken-fewer : classes T (jointsOf b) ≤ classCount b
+      taken-fewer = let rig = block-rig (g .well) in fewer-classes (rig .lawful) (rig .some) (g .well .well) from-block
 
-    module _ (c k r : List ℕ) (lc : length c ≡ 64) (lk : length k ≡ 64) (lr : length r ≡ rowsSize)
+    module _ (c k r : List ℕ) (lc : length c ≡ 96) (lk : length k ≡ 96) (lr : length r ≡ rowsSize)
         (t : Taken (kindsOf b) (meetOf (rigOf b)) (jointsOf b) E (map (rename rigNumber) facts) (listForm c k r)) where
       rig-stays : rigOf (withForm b c k r) ≡ rigOf b
       rig-stays = with-rig b c k r (g .size) (omega arith) (omega arith) (omega arith)
@@ -93,32 +86,6 @@ module _ {b : List ℕ} (g : GoodBlock b) {E : Form} (x : Extends (jointsOf b) 0
       taken-classes =
           sym (form-classes form-stored (jointsOf b)) ∙ ap (λ (R : Rig). classes (blockForm (withForm b c k r)) (R .joints)) (sym rig-stays)
 
--- forms that are equal at every joint are taken alike
-taken-alike :
-    {n : ℕ} {meet : ℕ → ℕ → ℕ} {v : ℕ} {S T U : Form} {fs : List (Fact ℕ)} → SameForm T U → Taken n meet v S fs T → Taken n meet v S fs U
-taken-alike e t =
-    record {
-      well = form-well e (t .well);
-      means = λ P σ placed. (λ m. t .means P σ placed .0 (form-models e .1 m), λ z. form-models e .0 (t .means P σ placed .1 z));
-    }
-
--- the bytes stored are the form: behind the first 64 nodes, which are all, classes and kinds are 0
-bytes-same :
-    {n v : ℕ} (form : Solved) (rows : List ℕ) → v ≤ 64 → Well n v (formOf form rows)
-    → SameForm (formOf form rows) (listForm (classBytes form) (kindBytes form) rows)
-bytes-same {n} {v} form rows small w =
-    record {
-      class = λ j. at (classAt (form .node)) j (λ h. w .class-rest j (omega arith));
-      kind = λ j. at (kindAt (form .node)) j (λ h. w .kind-rest j (λ s. omega (arith, s .0)));
-      link = λ j l i. refl;
-    }
-  where
-    at : (f : ℕ → ℕ) (j : ℕ) → (64 ≤ j → f j ≡ 0) → f j ≡ getD (each f 0 64) j 0
-    at f j none =
-        by-cases (decLt j 64)
-        (λ h. sym (each-at f 64 j h))
-        (λ h. none (omega arith) ∙ sym (List·getD-eq-default (each f 0 64) 0 (omega (arith, each-length f 0 64))))
-
 -- the solver's answer with its count of classes, as the outcome of the packet p
 module _ {b p : List ℕ} (g : GoodBlock b) (start form : Solved) (was rows : List ℕ) (x : Extends (jointsOf b) 0 (blockForm b) (formOf start was)) where
   pub clash-outcome :
@@ -128,19 +95,13 @@ module _ {b p : List ℕ} (g : GoodBlock b) (start form : Solved) (was rows : Li
       record { no-picture = λ _. refuted-answer g x (rigFacts p) r; after = λ e. absurd (true≢false e); count = λ e. absurd (true≢false e) }
 
   pub done-outcome :
-      length rows ≡ rowsSize
+      length (form .class) ≡ 96 → length (form .kind) ≡ 96 → length rows ≡ rowsSize
       → Taken (kindsOf b) (meetOf (rigOf b)) (jointsOf b) (formOf start was) (map (rename rigNumber) (rigFacts p)) (formOf form rows)
-      → (before after : ℕ) → before ≡ classes (formOf start was) (jointsOf b) → after ≡ classes (formOf form rows) (jointsOf b)
+      → (before after : ℕ) → before ≡ classCount b → after ≡ classes (formOf form rows) (jointsOf b)
       → Solves b p false (before - after) form rows
-  done-outcome lr t before after eb ea =
-      let c = classBytes form in
-      let k = kindBytes form in
-      let e = bytes-same form rows (g .well .v-high) (t .well) in
-      let stored = taken-alike e t in
-      let lc = each-length (classAt (form .node)) 0 64 in
-      let lk = each-length (kindAt (form .node)) 0 64 in
+  done-outcome lc lk lr t before after eb ea =
       record {
         no-picture = λ e. absurd (false≢true e);
-        after = λ _. taken-after g x (rigFacts p) c k rows lc lk lr stored;
-        count = λ _. ap₂ _-_ (eb ∙ unpacked-classes g x) (ea ∙ form-classes e (jointsOf b) ∙ taken-classes g x (rigFacts p) c k rows lc lk lr stored);
+        after = λ _. taken-after g x (rigFacts p) (form .class) (form .kind) rows lc lk lr t;
+        count = λ _. ap₂ _-_ eb (ea ∙ taken-classes g x (rigFacts p) (form .class) (form .kind) rows lc lk lr t);
       }

@@ -6,24 +6,15 @@ use mathlib.Core.List.{List, _++_}
 use Prim.Native.Nat.{ℕ, _-_}
 use Rattle.meaning.specs.Rig.{NoPicture}
 use Rattle.packets.specs.Facts.{rigFacts}
-use Rattle.runs.specs.Runs.{each}
 use Rattle.solver.specs.declared.Solved.{Solved}
-use Rattle.solver.specs.Unpacked.{classAt, kindAt}
 use Rattle.joints.specs.Layout.{taken, classCount}
 use Rattle.joints.specs.Storing.{withForm}
 use Rattle.blocks.specs.Layout.{rigOf}
 use Rattle.taking.specs.Take.{After}
 
--- the class numbers and the kinds of a form's first 64 nodes
-abbrev pub classBytes : Solved → List ℕ
-classBytes form = each (classAt (form .node)) 0 64
-
-abbrev pub kindBytes : Solved → List ℕ
-kindBytes form = each (kindAt (form .node)) 0 64
-
 -- the block with a form in it
 abbrev pub withSolved : List ℕ → Solved → List ℕ → List ℕ
-withSolved b form rows = withForm b (classBytes form) (kindBytes form) rows
+withSolved b form rows = withForm b (form .class) (form .kind) rows
 
 pub record Solves (b p : List ℕ) (clash : Bool) (joins : ℕ) (form : Solved) (rows : List ℕ) : Type 0 where
   pub no-picture : clash ≡ true → NoPicture (rigOf b) (taken b ++ rigFacts p)

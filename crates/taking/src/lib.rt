@@ -2,7 +2,6 @@
 ghost use mathlib.Core.Path.{_≡_};
 ghost use mathlib.Core.Bool.{true, cond};
 ghost use mathlib.Core.List.{map};
-ghost use Prim.Native.Nat.{_<_};
 ghost use lib.ListN.{length, replicate};
 ghost use Rattle.kinds.specs.Kinds.{meetAt};
 ghost use Rattle.meaning.specs.Picture.{rename};
@@ -12,10 +11,10 @@ ghost use Rattle.packets.specs.Decoding.{rigFact};
 ghost use Rattle.screening.specs.Screening.{packetReply, factsWanted};
 ghost use Rattle.replies.specs.declared.Cause.{Cause};
 ghost use Rattle.replies.specs.declared.Reply.{Reply};
-ghost use Rattle.solver.specs.Unpacked.{kindAt, formOf, rowsSize, nodeFact, Ready, Folded};
+ghost use Rattle.solver.specs.Unpacked.{formOf, rowsSize, nodeFact, Ready, Folded};
 ghost use Rattle.blocks.specs.Layout.{blockSize};
 ghost use Rattle.taking.specs.Take.{takeRefusal, Take};
-ghost use Rattle.taking.specs.Solve.{classBytes, kindBytes, withSolved, Solves};
+ghost use Rattle.taking.specs.Solve.{withSolved, Solves};
 use meaning::RigFact;
 use replies::Cause;
 use replies::Reply;
@@ -55,15 +54,31 @@ fn with_facts(
     ensures { λ r. ⌜ Folded n (meetAt n (now (table .entry))) v (formOf start (now (rows .entry)))
         (map (rename rigNumber) (rigFacts (now (packet .entry)))) (r .at) (r .form .ok) (formOf (r .form) (now (rows .exit))) ⌝ }
 {
-    let mut form = start;
+    let mut class = start.class;
+    let mut kind = start.kind;
     let count = packets::fact_count(packet);
     for i in 0..count {
-        let fact = packets::rig_fact(packet, packets::fact_at(packet, i));
-        form = form.with_fact(rows, table, n, v, rig_node_fact(fact));
-        if !form.ok {
+        let fact = rig_node_fact(packets::rig_fact(packet, packets::fact_at(packet, i)));
+        let plain = solver::take_plainly(&mut class, &mut kind, rows, v as u8, table, n, v, fact);
+        if plain.yes {
+            continue;
+        }
+        if !solver::take_wholly(&mut class, &mut kind, rows, table, n, v, fact) {
+            let form = Solved {
+                class,
+                kind,
+                top: v as u8,
+                ok: false,
+            };
             return Fold { form, at: i };
         }
     }
+    let form = Solved {
+        class,
+        kind,
+        top: v as u8,
+        ok: true,
+    };
     Fold { form, at: count }
 }
 
@@ -89,6 +104,7 @@ fn solve(block: &[u8], packet: &[u8], rows: &mut [u8]) -> Outcome
 {
     let n = joints::kind_count(block) as usize;
     let v = joints::joint_count(block) as usize;
+    let before = solver::classes_in(joints::classes(block), v);
     let start = unpacking::unpack(rows, block, v, 0);
     let end = with_facts(start, rows, blocks::kind_table(block), n, v, packet);
     let form = end.form;
@@ -99,45 +115,12 @@ fn solve(block: &[u8], packet: &[u8], rows: &mut [u8]) -> Outcome
             form,
         };
     }
-    let joins = solver::classes_in(start, v) - solver::classes_in(form, v);
+    let joins = before - solver::classes_in(&form.class, v);
     Outcome {
         clash: false,
         joins: joins as u32,
         form,
     }
-}
-
-// The kind of node x.
-fn kind_at(node: &[u8; 96], x: u8) -> u8
-    requires { ⌜ (x < 96) × (length (now node) ≡ 96) ⌝ }
-    ensures { λ r. ⌜ r ≡ kindAt (now (node .entry)) x ⌝ }
-{
-    let held = node[x as usize];
-    if held < 128 { held } else { 0 }
-}
-
-// The class number of each of the first 64 nodes.
-fn class_bytes(form: Solved) -> [u8; 64]
-    ensures { λ r. ⌜ r ≡ classBytes form ⌝ }
-{
-    let node = form.node;
-    let mut class = [0u8; 64];
-    for j in 0..64 {
-        class[j] = solver::class_at(&node, j as u8);
-    }
-    class
-}
-
-// The kind of each of the first 64 nodes.
-fn kind_bytes(form: Solved) -> [u8; 64]
-    ensures { λ r. ⌜ r ≡ kindBytes form ⌝ }
-{
-    let node = form.node;
-    let mut kind = [0u8; 64];
-    for j in 0..64 {
-        kind[j] = kind_at(&node, j as u8);
-    }
-    kind
 }
 
 // The form stored into the block; where the facts clash, nothing is.
@@ -148,8 +131,8 @@ fn store(block: &mut [u8], form: Solved, rows: &[u8], clash: bool)
     if clash {
         return;
     }
-    let class = class_bytes(form);
-    let kind = kind_bytes(form);
+    let class = form.class;
+    let kind = form.kind;
     joints::store(block, &class, &kind, rows);
 }
 

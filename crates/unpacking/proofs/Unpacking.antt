@@ -1,22 +1,19 @@
 -- Unpacking: two runs put into a list, one behind the other, and the parts of a form.
 -- Assumes nothing.
-use mathlib.Core.Path.{_≡_, sym, _∙_, ap, ap₂}
-use mathlib.Core.Logic.{_≢_, by-cases}
+use mathlib.Core.Path.{_≡_, _∙_, ap}
 use mathlib.Core.List.{List, _++_}
 use Prim.Native.Nat.{ℕ, _+_, _-_, _*_, _<_, _≤_}
 use native.Mathlib.Omega.{arith}
 use native.Mathlib.Nat.{not-suc-le-zero}
-use native.Mathlib.Decide.{ℕ-discrete, decLt}
-use lib.ListN.{getD, length, take, drop, replicate, length-append, length-take, length-drop, length-replicate, getD-replicate, List·getD-append, List·getD-eq-default}
+use lib.ListN.{getD, length, take, drop, replicate, length-append, length-take, length-drop, length-replicate, getD-replicate, List·getD-append}
 use lib.Seq.{getD-append-add, getD-take, getD-drop, length-take-le}
-use borrow.Author.Tests.{eq-eqb, ne-eqb}
 use Rattle.runs.proofs.Zeros.{zeros-at}
-use Rattle.solver.specs.Unpacked.{byteClass, byteKind, nodesForm, rowsSize}
+use Rattle.solver.specs.Unpacked.{rowsSize}
 use Rattle.solver.proofs.Fill.{Filled}
-use Rattle.solver.proofs.Nodes.{class-kind, class-number, kind-kind, kind-number, held}
+use Rattle.meaning.specs.Form.{listForm}
 use Rattle.meaning.specs.Asking.{Extends}
 use Rattle.joints.specs.Layout.{classesOf, jointKindsOf, rowsOf, blockForm}
-use Rattle.unpacking.specs.Nodes.{nodeByte, Nodes, Unpackable}
+use Rattle.unpacking.specs.Nodes.{Nodes}
 
 -- xs with the count places from start replaced by ys
 abbrev splice : ℕ → ℕ → List ℕ → List ℕ → List ℕ
@@ -51,30 +48,6 @@ module _ (start count : ℕ) (ys xs : List ℕ) (fits : start + count ≤ length
       ∙ getD-drop start xs (count + (i - start - count)) 0
       ∙ ap (λ (k : ℕ). getD xs k 0) q
 
--- the first old places are known, and those from there on below all become one byte
-module _ (f : ℕ → ℕ) (s t y : List ℕ) (old all free : ℕ) (h : Filled f 0 old s t) (a : old ≤ all) (b : all ≤ length s)
-    (ey : y ≡ replicate (length (take (all - old) (drop old t))) free) where
-  y-count : length (take (all - old) (drop old t)) ≡ all - old
-  y-count = length-take-le (all - old) (drop old t) (simp length-drop (omega (arith, h .size)))
-
-  y-size : length y ≡ all - old
-  y-size = ap length ey ∙ length-replicate _ free ∙ y-count
-
-  fits : old + (all - old) ≤ length t
-  fits = omega (arith, h .size)
-
-  pub then-free : Nodes f old all free s (splice old (all - old) y t)
-  then-free =
-      record {
-        size = splice-size old (all - old) y t fits y-size ∙ h .size;
-        old-at = λ i k. before-at old (all - old) y t fits y-size i k ∙ h .done i (omega arith) k;
-        new-at = λ i j k.
-            inside-at old (all - old) y t fits y-size i j (omega arith)
-            ∙ ap (λ (l : List ℕ). getD l (i - old) 0) ey
-            ∙ getD-replicate (length (take (all - old) (drop old t))) (i - old) free 0 (omega (arith, y-count));
-        rest = λ i k. behind-at old (all - old) y t fits y-size i (omega arith) ∙ h .above i (omega arith);
-      }
-
 -- the first old places are another list's
 pub copied : (part s x : List ℕ) (old : ℕ) → old ≤ length s → old ≤ length part → x ≡ take old part → Filled (λ j. getD part j 0) 0 old s (x ++ drop old s)
 copied part s x old b c e =
@@ -88,60 +61,60 @@ copied part s x old b c e =
           right-at x (drop old s) n i h ∙ getD-drop old s (i - old) 0 ∙ ap (λ (k : ℕ). getD s k 0) q;
     }
 
+-- the first old places are another list's, and those from there on below all become one byte
+module _ (part s t y : List ℕ) (old all free : ℕ) (h : Filled (λ j. getD part j 0) 0 old s t) (a : old ≤ all) (b : all ≤ length s)
+    (ey : y ≡ replicate (length (take (all - old) (drop old t))) free) where
+  y-count : length (take (all - old) (drop old t)) ≡ all - old
+  y-count = length-take-le (all - old) (drop old t) (simp length-drop (omega (arith, h .size)))
+
+  y-size : length y ≡ all - old
+  y-size = ap length ey ∙ length-replicate _ free ∙ y-count
+
+  fits : old + (all - old) ≤ length t
+  fits = omega (arith, h .size)
+
+  pub then-free : Nodes part old all (λ _. free) s (splice old (all - old) y t)
+  then-free =
+      record {
+        size = splice-size old (all - old) y t fits y-size ∙ h .size;
+        old-at = λ i k. before-at old (all - old) y t fits y-size i k ∙ h .done i (omega arith) k;
+        new-at = λ i j k.
+            inside-at old (all - old) y t fits y-size i j (omega arith)
+            ∙ ap (λ (l : List ℕ). getD l (i - old) 0) ey
+            ∙ getD-replicate (length (take (all - old) (drop old t))) (i - old) free 0 (omega (arith, y-count));
+        rest = λ i k. behind-at old (all - old) y t fits y-size i (omega arith) ∙ h .above i (omega arith);
+      }
+
+-- ... or each its own number
+pub then-numbered :
+    {part s t u : List ℕ} {old all : ℕ} → old ≤ all → Filled (λ j. getD part j 0) 0 old s t → Filled (λ j. j) old all t u → Nodes part old all (λ j. j) s u
+then-numbered a h k =
+    record {
+      size = k .size ∙ h .size;
+      old-at = λ i b. k .below i b ∙ h .done i (omega arith) b;
+      new-at = λ i b c. k .done i b c;
+      rest = λ i b. k .above i b ∙ h .above i (omega arith);
+    }
+
 -- a part that lies inside a list has its full length
 pub part-size : (start count : ℕ) (l : List ℕ) → start + count ≤ length l → length (take count (drop start l)) ≡ count
 part-size start count l h = simp (length-take, length-drop) (omega arith)
 
--- what a joint's byte says
-module _ (class kind j : ℕ) where
-  pub byte-class : kind < 128 → byteClass (nodeByte class kind j) j ≡ class
-  byte-class small =
-      by-cases (ℕ-discrete class j)
-      (λ e. rw (eq-eqb class j e) (class-kind kind j small ∙ sym e))
-      (λ d. rw (ne-eqb class j d) (class-number (class + 128) j (omega arith) ∙ omega arith))
-
-  pub byte-kind : kind < 128 → (class ≢ j → kind ≡ 0) → byteKind (nodeByte class kind j) ≡ kind
-  byte-kind small none =
-      by-cases (ℕ-discrete class j)
-      (λ e. rw (eq-eqb class j e) (kind-kind kind small))
-      (λ d. rw (ne-eqb class j d) (kind-number (class + 128) (omega arith) ∙ sym (none d)))
-
 -- the three parts of the session's form, and behind them free nodes
-module _ (b classes kinds rows node link : List ℕ) (v k : ℕ) (u : Unpackable b v k)
-    (ec : classes ≡ classesOf b) (ek : kinds ≡ jointKindsOf b) (er : rows ≡ rowsOf b)
-    (c : Nodes (λ j. nodeByte (getD classes j 0) (getD kinds j 0) j) v (v + k) 1 (replicate 96 128) node)
-    (l : Nodes (λ j. getD rows j 0) (16 * v) (16 * (v + k)) 255 (replicate rowsSize 0) link) where
-  node-size : length node ≡ 96
-  node-size = c .size ∙ length-replicate {A = ℕ} 96 128
-
-  old-node : (j : ℕ) → j < v → getD node j 128 ≡ nodeByte (blockForm b .class j) (blockForm b .kind j) j
-  old-node j h =
-      held node 128 0 j (omega (arith, node-size, u .joints))
-      ∙ c .old-at j h
-      ∙ ap₂ (λ (x y : List ℕ). nodeByte (getD x j 0) (getD y j 0) j) ec ek
-
-  new-node : (j : ℕ) → v ≤ j → j < v + k → getD node j 128 ≡ 1
-  new-node j a h = held node 128 0 j (omega (arith, node-size, u .joints, u .free)) ∙ c .new-at j a h
-
-  no-node : (j : ℕ) → v + k ≤ j → getD node j 128 ≡ 128
-  no-node j h =
-      by-cases (decLt j 96)
-      (λ i. held node 128 0 j (omega (arith, node-size)) ∙ c .rest j h ∙ getD-replicate {A = ℕ} 96 j 128 0 i)
-      (λ i. List·getD-eq-default node 128 (omega (arith, node-size)))
-
-  small : (j : ℕ) → blockForm b .kind j < 128
-  small j = omega (arith, u .well .kind-in j, u .kinds)
-
-  pub unpacked : Extends v k (blockForm b) (nodesForm node link)
-  unpacked =
-      record {
-        class-old = λ j h. ap (λ x. byteClass x j) (old-node j h) ∙ byte-class _ _ j (small j);
-        kind-old = λ j h. ap byteKind (old-node j h) ∙ byte-kind _ _ j (small j) (λ d. u .well .kind-rest j (λ s. d (s .1)));
-        link-old = λ j x h i. l .old-at (j * 16 + x) (omega arith) ∙ ap (λ (y : List ℕ). getD y (j * 16 + x) 0) er;
-        class-new = λ j a h. ap (λ x. byteClass x j) (new-node j a h) ∙ class-kind 1 j (omega arith);
-        kind-new = λ j a h. ap byteKind (new-node j a h) ∙ kind-kind 1 (omega arith);
-        link-new = λ j x a h i. l .new-at (j * 16 + x) (omega arith) (omega arith);
-        class-rest = λ j h. ap (λ x. byteClass x j) (no-node j h) ∙ class-number 128 j (omega arith);
-        kind-rest = λ j h. ap byteKind (no-node j h) ∙ kind-number 128 (omega arith);
-        link-rest = λ j x h i. l .rest (j * 16 + x) (omega arith) ∙ zeros-at rowsSize (j * 16 + x);
-      }
+pub unpacked :
+    (b class kind link : List ℕ) (v k : ℕ)
+    → Nodes (classesOf b) v (v + k) (λ j. j) (replicate 96 0) class → Nodes (jointKindsOf b) v (v + k) (λ _. 1) (replicate 96 0) kind
+    → Nodes (rowsOf b) (16 * v) (16 * (v + k)) (λ _. 255) (replicate rowsSize 0) link
+    → Extends v k (blockForm b) (listForm class kind link)
+unpacked b class kind link v k c d l =
+    record {
+      class-old = c .old-at;
+      kind-old = d .old-at;
+      link-old = λ j x h i. l .old-at (j * 16 + x) (omega arith);
+      class-new = c .new-at;
+      kind-new = d .new-at;
+      link-new = λ j x a h i. l .new-at (j * 16 + x) (omega arith) (omega arith);
+      class-rest = λ j h. c .rest j h ∙ zeros-at 96 j;
+      kind-rest = λ j h. d .rest j h ∙ zeros-at 96 j;
+      link-rest = λ j x h i. l .rest (j * 16 + x) (omega arith) ∙ zeros-at rowsSize (j * 16 + x);
+    }

@@ -1,43 +1,35 @@
 -- `asking::all_inside` meets its contract. The loop's invariant: the rule joints passed are one with rig joints.
 -- The measure is what is left of the rule joints.
 -- Assumes nothing.
-use mathlib.Core.Path.{_≡_}
 use Prim.Native.Nat.{ℕ, _+_, _-_, _<_, _≤_}
 use native.Mathlib.Omega.{arith}
-use lib.ListN.{length}
+use lib.ListN.{getD}
 use borrow.Author.Needs.{needs}
 use borrow.Author.Count.{below-none, below-more}
-use Rattle.solver.specs.Unpacked.{classAt}
 use Rattle.asking.proofs.Asking.{yes, no}
 use Rattle.asking.proofs.all_inside.Statement.{statement}
 use Rattle.asking.proofs.all_inside.Tie as tie
 
 abbrev Inv-loop : tie.InvT-loop
-Inv-loop v k node i₀ i = (i ≤ k) × ((j : ℕ) → j < i → classAt node (v + j) < v)
+Inv-loop v k form i₀ i = (i ≤ k) × ((j : ℕ) → j < i → getD (form .class) (v + j) 0 < v)
 
 abbrev μ-loop : tie.MeasureT-loop
-μ-loop v k node i₀ i = k - i
-
-node-long : (c : tie.Start Inv-loop μ-loop) → length (c .args .form .node) ≡ 96
-node-long c = search needs
+μ-loop v k form i₀ i = k - i
 
 loop-holds : tie.Need-loop-holds Inv-loop μ-loop
 loop-holds c = (omega arith, below-none _)
 
-add-class-at : tie.Need-add-class-at Inv-loop μ-loop
-add-class-at c = search needs
+add-if1 : tie.Need-add-if1 Inv-loop μ-loop
+add-if1 c = omega (arith, c .before .before .pre)
 
-cast-class-at : tie.Need-cast-class-at Inv-loop μ-loop
-cast-class-at c = omega (arith, c .before .before .before .before .pre)
-
-class-at-requires : tie.Need-class-at-requires Inv-loop μ-loop
-class-at-requires c κs = (omega (arith, c .before .before .before .before .pre), node-long (c .before .before .before .before))
+element-copy-out-if1 : tie.Need-element-copy-out-if1 Inv-loop μ-loop
+element-copy-out-if1 c = omega (arith, c .before .before .pre)
 
 cast-if1 : tie.Need-cast-if1 Inv-loop μ-loop
 cast-if1 c = search needs
 
 returns : tie.Need-returns Inv-loop μ-loop
-returns c = no (λ inside. omega (arith, c .if1 .taken, c .before .class-at .ensures, inside (c .before .before .before .before .loop .i) (c .before .before .before .loop-test .taken)))
+returns c = no (λ inside. omega (arith, c .if1 .taken, inside (c .before .before .before .loop .i) (c .before .before .loop-test .taken)))
 
 add-i : tie.Need-add-i Inv-loop μ-loop
 add-i c = search needs
@@ -46,7 +38,7 @@ loop-less : tie.Need-loop-less Inv-loop μ-loop
 loop-less c = search needs
 
 loop-again : tie.Need-loop-again Inv-loop μ-loop
-loop-again c = (omega arith, below-more _ _ (c .before .before .before .before .loop .inv .1) (omega (arith, c .if1 .left, c .before .class-at .ensures)))
+loop-again c = (omega arith, below-more _ _ (c .before .before .before .loop .inv .1) (omega (arith, c .if1 .left)))
 
 returns-2 : tie.Need-returns-2 Inv-loop μ-loop
 returns-2 c = yes (λ i h. c .before .loop .inv .1 i (omega arith))
@@ -58,9 +50,8 @@ all-inside-spec =
     Inv-loop
     μ-loop
     loop-holds
-    add-class-at
-    cast-class-at
-    class-at-requires
+    add-if1
+    element-copy-out-if1
     cast-if1
     returns
     add-i

@@ -1,6 +1,6 @@
 -- `asking::verdict` meets its contract: what the rule's ties and facts come to, taken behind the block's form, is the verdict.
 -- Assumes nothing.
-use mathlib.Core.Path.{_≡_, refl, sym, _∙_, ap, subst}
+use mathlib.Core.Path.{_≡_, refl, sym, _∙_, subst}
 use Prim.Native.Nat.{ℕ, _+_}
 use native.Mathlib.Omega.{arith}
 use lib.ListN.{length, length-replicate}
@@ -8,31 +8,15 @@ use borrow.Author.Tests.{not-true, not-false}
 use Rattle.replies.specs.declared.Reply.the-variants.{Done}
 use Rattle.kinds.specs.Kinds.{meetAt}
 use Rattle.meaning.specs.Rig.{meetOf}
-use Rattle.meaning.specs.Solving.{Well}
 use Rattle.meaning.specs.Asking.{ruleNodeFacts, Extends, Settled}
 use Rattle.packets.specs.Packet.{joints}
 use Rattle.packets.specs.Facts.{ruleOf}
 use Rattle.screening.specs.Screening.{packetReply, ruleWanted}
-use Rattle.solver.specs.Unpacked.{formOf, rowsSize, Ready, Took}
-use Rattle.solver.proofs.Nodes.{well-proper}
+use Rattle.solver.specs.Unpacked.{formOf, rowsSize, Named, Ready, Took}
 use Rattle.joints.specs.Layout.{kindsOf, jointsOf, blockForm}
 use Rattle.blocks.specs.Layout.{rigOf}
 use Rattle.blocks.proofs.Read.{Read, read-back, as-read}
-use Rattle.unpacking.proofs.Unpacking.{part-size}
-use Rattle.asking.proofs.Asking.{
-  Asked,
-  asked,
-  asked-rule,
-  asked-nodes,
-  asked-ready,
-  Tells,
-  answers-same,
-  ruled-out,
-  applies,
-  waits,
-  from-start,
-  to-start,
-}
+use Rattle.asking.proofs.Asking.{Asked, asked, asked-rule, asked-nodes, asked-ready, asked-named, Tells, ruled-out, applies, waits}
 use borrow.Author.Needs.{needs}
 use Rattle.asking.proofs.verdict.Statement.{statement}
 use Rattle.asking.proofs.verdict.Tie as tie
@@ -43,15 +27,8 @@ start c = asked _ _ (c .pre .0)
 
 -- n, V and the table, read off the block
 read :
-    (c : tie.After-kind-table)
-    → Read (c .before .before .before .before .before .before .before .before .before .before .args .block .now) (c .before .before .before .before .before .before .before .kind-count .result) (c .before .before .before .before .before .before .joint-count .result) (c .kind-table .result .now)
+    (c : tie.After-kind-table) → Read (c .before .before .before .before .before .before .before .before .before .before .args .block .now) (c .before .before .before .before .before .before .before .kind-count .result) (c .before .before .before .before .before .before .joint-count .result) (c .kind-table .result .now)
 read c = record { kinds = c .before .before .before .before .before .before .before .kind-count .ensures; joints = c .before .before .before .before .before .before .joint-count .ensures; table-is = c .kind-table .ensures }
-
-start-long : (c : tie.After-unpack) → length (c .unpack .result .node) ≡ 96
-start-long c = search needs
-
-end-long : (c : tie.After-with-rule) → length (c .with-rule .result .node) ≡ 96
-end-long c = search needs
 
 -- the rows stay as many
 rows-kept : (c : tie.After-unpack) → length (c .unpack .last .0) ≡ rowsSize
@@ -68,12 +45,18 @@ unpacked c =
     subst (λ (v : ℕ). Extends v (joints (a .packet .now)) (blockForm (a .block .now)) (formOf (c .unpack .result) (c .unpack .last .0)))
     (c .before .before .before .joint-count .ensures) (c .unpack .ensures .0)
 
+-- no row names a joint of the rule
+named : (c : tie.After-unpack) → Named (c .unpack .result .top) (formOf (c .unpack .result) (c .unpack .last .0))
+named c =
+    subst (λ (t : ℕ). Named t (formOf (c .unpack .result) (c .unpack .last .0))) (sym (c .unpack .ensures .2 ∙ c .before .before .before .joint-count .ensures))
+    (asked-named (start (c .before .before .before .before .before .before .before)) (unpacked c))
+
 -- the ties and facts are taken by the block's own table
 took :
     (c : tie.After-with-rule) → let b = c .before .before .before .before .before .before .before .before .before .before .before .args .block .now in
     let p = c .before .before .before .before .before .before .before .before .before .before .before .args .packet .now in
-    let u = c .before .before .before .before in
-    Took (kindsOf b) (meetOf (rigOf b)) (jointsOf b + joints p) (formOf (u .unpack .result) (u .unpack .last .0))
+    let u = c .before .before .before .before .unpack in
+    Took (kindsOf b) (meetOf (rigOf b)) (jointsOf b + joints p) (formOf (u .result) (u .last .0))
     (ruleNodeFacts (jointsOf b) (ruleOf p)) (c .with-rule .result .ok) (formOf (c .with-rule .result) (c .with-rule .last .1 .0))
 took c =
     let p = c .before .before .before .before .before .before .before .before .before .before .before .args .packet .now in
@@ -82,24 +65,16 @@ took c =
     let T = formOf r (c .with-rule .last .1 .0) in
     read-back (read (c .before)) (λ n v t. Took n (meetAt n t) (v + joints p) S (ruleNodeFacts v (ruleOf p)) (r .ok) T) (c .with-rule .ensures)
 
--- whether the rule is settled, for the V and the form of the block
+-- whether the rule is settled, for the V of the block
 settled-so :
-    (c : tie.After-settled) → let b = c .before .before .before .before .before .before .before .before .before .before .before .before .before .before .before .before .before .args .block .now in
-    let w = c .before .before .before .before .before .before in
-    Tells (c .settled .result)
-    (Settled (jointsOf b) (joints (c .before .before .before .before .before .before .before .before .before .before .before .before .before .before .before .before .before .args .packet .now)) (blockForm b) (formOf (w .with-rule .result) (w .with-rule .last .1 .0)))
+    (c : tie.After-settled) → let b = c .before .before .before .before .before .before .before .before .before .before .before .before .before .before .before .before .args .block .now in
+    let w = c .before .before .before .before .before .with-rule in
+    Tells (c .settled .result) (Settled (jointsOf b) (joints (c .before .before .before .before .before .before .before .before .before .before .before .before .before .before .before .before .args .packet .now)) (blockForm b) (formOf (w .result) (w .last .1 .0)))
 settled-so c =
-    let b = c .before .before .before .before .before .before .before .before .before .before .before .before .before .before .before .before .before .args .block .now in
-    let p = c .before .before .before .before .before .before .before .before .before .before .before .before .before .before .before .before .before .args .packet .now in
-    let w = c .before .before .before .before .before .before in
-    let first = c .before .before .before .before .before .before .before .before .before .before .unpack .result in
-    let was = c .before .before .before .before .before .before .before .before .before .before .unpack .last .0 in
-    let had = c .before .before .rows5 .result .now in
-    let e = c .before .before .rows5 .ensures in
-    let x = unpacked (c .before .before .before .before .before .before .before .before .before .before) in
-    let T = formOf (w .with-rule .result) (w .with-rule .last .1 .0) in
-    answers-same (from-start b first was had x e) (to-start b first was had x e)
-    (subst (λ (v : ℕ). Tells (c .settled .result) (Settled v (joints p) (formOf first had) T)) (c .before .before .before .before .before .before .before .before .before .before .before .before .before .joint-count .ensures) (c .settled .ensures))
+    let b = c .before .before .before .before .before .before .before .before .before .before .before .before .before .before .before .before .args .block .now in
+    let p = c .before .before .before .before .before .before .before .before .before .before .before .before .before .before .before .before .args .packet .now in
+    let w = c .before .before .before .before .before .with-rule in
+    subst (λ (v : ℕ). Tells (c .settled .result) (Settled v (joints p) (blockForm b) (formOf (w .result) (w .last .1 .0)))) (c .before .before .before .before .before .before .before .before .before .before .before .before .joint-count .ensures) (c .settled .ensures)
 
 kind-count-requires : tie.Need-kind-count-requires
 kind-count-requires c κs = omega (arith, start (c .before .before) .good .size)
@@ -126,17 +101,7 @@ unpack-requires : tie.Need-unpack-requires
 unpack-requires c κs =
     let a = start (c .before .before .before .before .before .before) in
     let g = a .good in
-    let v = c .before .before .joint-count .ensures in
-    let b = c .before .before .before .before .before .before .args .block .now in (
-      record {
-        size = omega (arith, g .size);
-        kinds = g .well .n-high;
-        joints = omega (arith, g .well .v-high, v);
-        free = asked-rule a .joints-to;
-        well = subst (λ (k : ℕ). Well (kindsOf b) k (blockForm b)) (sym v) (g .well .well);
-      },
-      refl,
-    )
+    ((omega (arith, g .size), omega (arith, g .well .v-high, c .before .before .joint-count .ensures), asked-rule a .joints-to), refl)
 
 slice-aggregate-with-rule : tie.Need-slice-aggregate-with-rule
 slice-aggregate-with-rule c = search needs
@@ -150,15 +115,12 @@ with-rule-requires c κs =
     let p = c .before .before .before .before .before .before .before .before .before .before .args .packet .now in
     let u = c .before .before .before in
     let S = formOf (u .unpack .result) (u .unpack .last .0) in (
-      (u .unpack .ensures .1, rows-kept u, as-read (read c) (λ n v t. Ready n (v + joints p) t S) (asked-ready a (unpacked u))),
+      (rows-kept u, as-read (read c) (λ n v t. Ready n (v + joints p) t S) (asked-ready a (unpacked u)), named u),
       as-read (read c) (λ n v t. packetReply ruleWanted n v p ≡ Done 0) (a .rule),
     )
 
 returns : tie.Need-returns
 returns c = ruled-out (start (c .before .before .before .before .before .before .before .before .before .before .before .before .before .before)) (unpacked (c .before .before .before .before .before .before .before)) (took (c .before .before .before)) (not-true _ (c .if1 .taken))
-
-rows-requires : tie.Need-rows-requires
-rows-requires c κs = omega (arith, start (c .before .before .before .before .before .before .before .before .before .before .before .before .before .before) .good .size)
 
 slice-aggregate-settled : tie.Need-slice-aggregate-settled
 slice-aggregate-settled c = search needs
@@ -168,29 +130,15 @@ cast-settled c = search needs
 
 settled-requires : tie.Need-settled-requires
 settled-requires c κs =
-    let a = start (c .before .before .before .before .before .before .before .before .before .before .before .before .before .before .before .before) in
-    let w = c .before .before .before .before .before in
-    let u = c .before .before .before .before .before .before .before .before .before in
-    let v = c .before .before .before .before .before .before .before .before .before .before .before .before .joint-count .ensures in
-    let had = part-size 130 1024 (c .before .before .before .before .before .before .before .before .before .before .before .before .before .before .before .before .args .block .now) (omega (arith, a .good .size)) in
-    let nodes = asked-nodes a in
-    let first = asked-ready a (unpacked u) .well in
-    let last = took w .taken (not-false _ (c .before .before .if1 .left)) .well in (
-      (
-        omega (arith, a .good .well .v-high, v),
-        omega (arith, ap length (c .before .rows5 .ensures), had),
-        rows-left w,
-        λ j h. well-proper (u .unpack .result .node) (u .unpack .last .0) first (omega (arith, nodes, start-long u)) j (omega (arith, h, v)),
-        λ j h. well-proper (w .with-rule .result .node) (w .with-rule .last .1 .0) last (omega (arith, nodes, end-long w)) j (omega (arith, h, v)),
-      ),
-      omega (arith, nodes, v),
-    )
+    let a = start (c .before .before .before .before .before .before .before .before .before .before .before .before .before .before .before) in
+    let v = c .before .before .before .before .before .before .before .before .before .before .before .joint-count .ensures in
+    (omega (arith, a .good .well .v-high, v), omega (arith, a .good .size), rows-left (c .before .before .before .before), omega (arith, asked-nodes a, v))
 
 returns-2 : tie.Need-returns-2
-returns-2 c = applies (start (c .before .before .before .before .before .before .before .before .before .before .before .before .before .before .before .before .before .before)) (unpacked (c .before .before .before .before .before .before .before .before .before .before .before)) (took (c .before .before .before .before .before .before .before)) (not-false _ (c .before .before .before .before .if1 .left)) (settled-so (c .before) .0 (c .if2 .taken))
+returns-2 c = applies (start (c .before .before .before .before .before .before .before .before .before .before .before .before .before .before .before .before .before)) (unpacked (c .before .before .before .before .before .before .before .before .before .before)) (took (c .before .before .before .before .before .before)) (not-false _ (c .before .before .before .if1 .left)) (settled-so (c .before) .0 (c .if2 .taken))
 
 returns-3 : tie.Need-returns-3
-returns-3 c = waits (start (c .before .before .before .before .before .before .before .before .before .before .before .before .before .before .before .before .before .before)) (unpacked (c .before .before .before .before .before .before .before .before .before .before .before)) (took (c .before .before .before .before .before .before .before)) (not-false _ (c .before .before .before .before .if1 .left)) (c .before .before .before .before .before .before .before .before .before .before .before .before .before .before .before .before .before .before .pre .1) (settled-so (c .before) .1 (c .if2 .left))
+returns-3 c = waits (start (c .before .before .before .before .before .before .before .before .before .before .before .before .before .before .before .before .before)) (unpacked (c .before .before .before .before .before .before .before .before .before .before)) (took (c .before .before .before .before .before .before)) (not-false _ (c .before .before .before .if1 .left)) (c .before .before .before .before .before .before .before .before .before .before .before .before .before .before .before .before .before .pre .1) (settled-so (c .before) .1 (c .if2 .left))
 
 pub verdict-spec : {M : Type 1} → statement M
 verdict-spec =
@@ -208,7 +156,6 @@ verdict-spec =
     kind-table-requires
     with-rule-requires
     returns
-    rows-requires
     slice-aggregate-settled
     cast-settled
     settled-requires

@@ -3,9 +3,7 @@
 use mathlib.Core.Path.{_≡_, sym}
 use mathlib.Core.List.{List, []}
 use Prim.Native.Nat.{ℕ, _-_, _≤_}
-use lib.ListN.{length}
-use Rattle.meaning.specs.Form.{classes}
-use Rattle.solver.specs.Unpacked.{formOf}
+use Rattle.meaning.specs.Form.{listForm, classes}
 use Rattle.solver.proofs.Run.{classes-none, classes-le}
 use Rattle.solver.proofs.Counting.{one-counted}
 use borrow.Author.Needs.{needs}
@@ -14,19 +12,16 @@ use Rattle.solver.proofs.classes_in.Statement.{statement}
 use Rattle.solver.proofs.classes_in.Tie as tie
 
 abbrev Inv-loop : tie.InvT-loop
-Inv-loop v form count₀ j₀ count j = (j ≤ v) × ((rows : List ℕ) → count ≡ classes (formOf form rows) j)
+Inv-loop class v count₀ j₀ count j = (j ≤ v) × ((kind rows : List ℕ) → count ≡ classes (listForm class kind rows) j)
 
 abbrev μ-loop : tie.MeasureT-loop
-μ-loop v form count₀ j₀ count j = v - j
-
-node-long : (c : tie.Start Inv-loop μ-loop) → length (c .args .t1 .node) ≡ 96
-node-long c = search needs
+μ-loop class v count₀ j₀ count j = v - j
 
 loop-holds : tie.Need-loop-holds Inv-loop μ-loop
-loop-holds c = (omega arith, λ rows. sym (classes-none (formOf (c .args .t1) rows)))
+loop-holds c = (omega arith, λ kind rows. sym (classes-none (listForm (c .before .args .class .now) kind rows)))
 
-element-copy-out-is-smallest : tie.Need-element-copy-out-is-smallest Inv-loop μ-loop
-element-copy-out-is-smallest c = search needs
+shared-slice-read-is-smallest : tie.Need-shared-slice-read-is-smallest Inv-loop μ-loop
+shared-slice-read-is-smallest c = search needs
 
 is-smallest-requires : tie.Need-is-smallest-requires Inv-loop μ-loop
 is-smallest-requires c κs = search needs
@@ -34,7 +29,7 @@ is-smallest-requires c κs = search needs
 add-count : tie.Need-add-count Inv-loop μ-loop
 add-count c =
     let L = c .before .before .before in
-    omega (arith, L .loop .inv .1 [], classes-le (formOf (L .before .args .t1) []) (L .loop .j), c .is-smallest .ensures .2)
+    omega (arith, L .loop .inv .1 [] [], classes-le (listForm (c .before .before .before .before .before .args .class .now) [] []) (L .loop .j), c .is-smallest .ensures .2)
 
 add-j : tie.Need-add-j Inv-loop μ-loop
 add-j c = search needs
@@ -45,17 +40,14 @@ loop-less c = search needs
 loop-again : tie.Need-loop-again Inv-loop μ-loop
 loop-again c =
     let L = c .before .before .before in
-    let s = L .before in
-    let e = c .is-smallest .ensures in (
-      omega arith,
-      λ rows. rw (L .loop .inv .1 rows) (sym (one-counted (s .args .t1 .node) rows (L .loop .j) (omega (arith, node-long s)) (s .pre .1 (L .loop .j) (omega arith)) _ (e .0) (e .1))),
-    )
+    let e = c .is-smallest .ensures in
+    (omega arith, λ kind rows. rw (L .loop .inv .1 kind rows) (sym (one-counted (listForm (c .before .before .before .before .before .args .class .now) kind rows) (L .loop .j) _ (e .0) (e .1))))
 
 returns : tie.Need-returns Inv-loop μ-loop
 returns c =
     let L = c .before in
-    let e : L .loop .j ≡ L .before .args .v = omega arith in
-    λ rows. rw (← e) (L .loop .inv .1 rows)
+    let e : L .loop .j ≡ c .before .before .before .args .v = omega arith in
+    λ kind rows. rw (← e) (L .loop .inv .1 kind rows)
 
 pub classes-in-spec : {M : Type 1} → statement M
 classes-in-spec =
@@ -64,7 +56,7 @@ classes-in-spec =
     Inv-loop
     μ-loop
     loop-holds
-    element-copy-out-is-smallest
+    shared-slice-read-is-smallest
     is-smallest-requires
     add-count
     add-j

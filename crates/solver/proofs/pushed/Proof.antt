@@ -42,6 +42,9 @@ array-read-both-known-2 c = search needs
 both-known-requires : tie.Need-both-known-requires Inv-loop μ-loop
 both-known-requires c κs = search needs
 
+cast-count : tie.Need-cast-count Inv-loop μ-loop
+cast-count c = search needs
+
 add-count : tie.Need-add-count Inv-loop μ-loop
 add-count c = search needs
 
@@ -88,6 +91,7 @@ pushed-spec =
     array-read-both-known
     array-read-both-known-2
     both-known-requires
+    cast-count
     add-count
     add-l
     loop-less

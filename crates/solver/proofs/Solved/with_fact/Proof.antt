@@ -1,315 +1,145 @@
--- `with_fact` meets its contract: the kind stored is the meet, and the fact clashes exactly where that is 0; where two nodes are one already
--- the fact says nothing new, and else `with_same` takes it; a link not known is set, and the end of a known one is made one with y.
+-- `with_fact` meets its contract: the kind stored is the meet, and the fact clashes exactly where that is 0; `with_same` makes two nodes one;
+-- a link not known is set, and the end of a known one is made one with y.
 -- Assumes nothing.
 use mathlib.Core.Path.{_≡_, refl}
 use lib.ListN.{length}
 use native.Mathlib.Omega.{arith}
-use Rattle.solver.proofs.OneFact.{class-read, kind-in, kind-took, kind-clashes, same-took, free-took, end-read, known-took}
+use Rattle.solver.specs.Unpacked.{Lent}
+use Rattle.solver.proofs.OneFact.{node-inside, class-read, kind-read, kind-takes, kind-refutes, link-takes, end-read, known-took}
+use Rattle.solver.proofs.Takes.{took-taken}
 use borrow.Author.Needs.{needs}
 use Rattle.solver.proofs.Solved.with_fact.Statement.{statement}
 use Rattle.solver.proofs.Solved.with_fact.Tie as tie
 
-node-long : (c : tie.Start) → length (c .args .self .node) ≡ 96
-node-long c = search needs
+lent : (c : tie.Start) → Lent (c .args .self .class) (c .args .self .kind) (c .args .rows .now)
+lent c = record { class-size = search needs; kind-size = search needs; rows-size = c .pre .1 }
 
 enum-known-fact : tie.Need-enum-known-fact
 enum-known-fact c = search needs
 
-class-at-requires : tie.Need-class-at-requires
-class-at-requires c κs =
-    let f = c .before .before .before in
-    let s = f .before .before .before .before in
-    let p = s .pre in
-    let r = rw (f .fact .given .1) at (p .3) in
-    let long = node-long s in
-    (omega (arith, r .0, p .2 .nodes), long)
+slice-aggregate-met-kind : tie.Need-slice-aggregate-met-kind
+slice-aggregate-met-kind c = search needs
 
-cast-known : tie.Need-cast-known
-cast-known c = search needs
+slice-aggregate-met-kind-2 : tie.Need-slice-aggregate-met-kind-2
+slice-aggregate-met-kind-2 c = search needs
 
-element-copy-out-known : tie.Need-element-copy-out-known
-element-copy-out-known c =
-    let f = c .before .before .before .before in
-    let s = f .before .before .before .before in
-    let p = s .pre in
-    let r = rw (f .fact .given .1) at (p .3) in
-    let t = s .args .table .now in
-    let node = s .args .self .node in
-    let rows = s .args .rows .now in
-    let long = node-long s in
-    class-read t node rows (p .2) long (r .0) (c .class-at .ensures)
+met-kind-requires : tie.Need-met-kind-requires
+met-kind-requires c κs =
+    let s = c .before .before .before .before .before .before .before .before .before in
+    let r = rw (c .before .before .before .before .before .fact .given .1) at (s .pre .3) in
+    let d = s .pre .2 in
+    let k = lent s in
+    ((k .class-size, k .kind-size, node-inside d k (r .0), class-read d k (r .0)), (d .kinds, d .size, kind-read d k (r .0), r .1))
 
-cast-meet : tie.Need-cast-meet
-cast-meet c = search needs
-
-cast-meet-2 : tie.Need-cast-meet-2
-cast-meet-2 c = search needs
-
-meet-requires : tie.Need-meet-requires
-meet-requires c κs =
-    let f = c .before .before .before .before .before in
-    let s = f .before .before .before .before in
-    let p = s .pre in
-    let r = rw (f .fact .given .1) at (p .3) in
-    let t = s .args .table .now in
-    let node = s .args .self .node in
-    let rows = s .args .rows .now in
-    let long = node-long s in
-    (p .2 .kinds, p .2 .size, kind-in t node rows (p .2) long (r .0) (c .before .class-at .ensures), r .1)
-
-cast-form : tie.Need-cast-form
-cast-form c = search needs
-
-element-write-form : tie.Need-element-write-form
-element-write-form c =
-    let f = c .before .before .before .before .before .before .before in
-    let s = f .before .before .before .before in
-    let p = s .pre in
-    let r = rw (f .fact .given .1) at (p .3) in
-    let t = s .args .table .now in
-    let node = s .args .self .node in
-    let rows = s .args .rows .now in
-    let long = node-long s in
-    class-read t node rows (p .2) long (r .0) (c .before .before .before .class-at .ensures)
+cast-t27 : tie.Need-cast-t27
+cast-t27 c = search needs
 
 enum-known-fact-2 : tie.Need-enum-known-fact-2
 enum-known-fact-2 c = search needs
 
-class-at-requires-2 : tie.Need-class-at-requires-2
-class-at-requires-2 c κs =
-    let f = c .before .before .before in
-    let s = f .before .before .before .before in
-    let p = s .pre in
-    let r = rw (f .fact2 .given .1) at (p .3) in
-    let long = node-long s in
-    (omega (arith, r .0, p .2 .nodes), long)
-
-class-at-requires-3 : tie.Need-class-at-requires-3
-class-at-requires-3 c κs =
-    let f = c .before .before .before .before .before .before in
-    let s = f .before .before .before .before in
-    let p = s .pre in
-    let r = rw (f .fact2 .given .1) at (p .3) in
-    let long = node-long s in
-    (omega (arith, r .1, p .2 .nodes), long)
-
 with-same-requires : tie.Need-with-same-requires
 with-same-requires c κs =
-    let f = c .before .before .before .before .before .before .before .before .before in
-    let s = f .before .before .before .before in
-    let p = s .pre in
-    let r = rw (f .fact2 .given .1) at (p .3) in
-    (p .2, r .0, r .1, p .1)
+    let s = c .before .before .before .before .before .before in
+    let r = rw (c .before .before .fact2 .given .1) at (s .pre .3) in
+    (s .pre .2, r .0, r .1, s .pre .1)
 
 enum-known-fact-3 : tie.Need-enum-known-fact-3
 enum-known-fact-3 c = search needs
 
-class-at-requires-4 : tie.Need-class-at-requires-4
-class-at-requires-4 c κs =
-    let f = c .before .before .before in
-    let s = f .before .before .before .before in
-    let p = s .pre in
-    let r = rw (f .fact3 .given .1) at (p .3) in
-    let long = node-long s in
-    (omega (arith, r .0, p .2 .nodes), long)
+slice-aggregate-put-link : tie.Need-slice-aggregate-put-link
+slice-aggregate-put-link c = search needs
 
-cast-at : tie.Need-cast-at
-cast-at c = search needs
+put-link-requires : tie.Need-put-link-requires
+put-link-requires c κs =
+    let s = c .before .before .before .before .before .before .before .before in
+    let r = rw (c .before .before .before .before .fact3 .given .1) at (s .pre .3) in
+    let d = s .pre .2 in
+    let k = lent s in
+    (k .class-size, k .rows-size, node-inside d k (r .0), class-read d k (r .0), r .1, node-inside d k (r .2))
 
-mul-at : tie.Need-mul-at
-mul-at c = search needs
-
-cast-at-2 : tie.Need-cast-at-2
-cast-at-2 c = search needs
-
-add-at : tie.Need-add-at
-add-at c = search needs
-
-slice-read-end : tie.Need-slice-read-end
-slice-read-end c =
-    let f = c .before .before .before .before .before in
-    let s = f .before .before .before .before in
-    let p = s .pre in
-    let r = rw (f .fact3 .given .1) at (p .3) in
-    let t = s .args .table .now in
-    let node = s .args .self .node in
-    let rows = s .args .rows .now in
-    let long = node-long s in
-    omega (arith, class-read t node rows (p .2) long (r .0) (c .before .class-at4 .ensures), r .1, p .1)
-
-class-at-requires-5 : tie.Need-class-at-requires-5
-class-at-requires-5 c κs =
-    let f = c .before .before .before .before .before .before .before in
-    let s = f .before .before .before .before in
-    let p = s .pre in
-    let r = rw (f .fact3 .given .1) at (p .3) in
-    let long = node-long s in
-    (omega (arith, r .2, p .2 .nodes), long)
-
-slice-write-rows : tie.Need-slice-write-rows
-slice-write-rows c =
-    let f = c .before .before .before .before .before .before .before .before .before in
-    let s = f .before .before .before .before in
-    let p = s .pre in
-    let r = rw (f .fact3 .given .1) at (p .3) in
-    let t = s .args .table .now in
-    let node = s .args .self .node in
-    let rows = s .args .rows .now in
-    let long = node-long s in
-    omega (arith, class-read t node rows (p .2) long (r .0) (c .before .before .before .before .before .class-at4 .ensures), r .1, p .1)
-
-class-at-requires-6 : tie.Need-class-at-requires-6
-class-at-requires-6 c κs =
-    let f = c .before .before .before .before .before .before .before .before .before .before .before in
-    let s = f .before .before .before .before in
-    let p = s .pre in
-    let r = rw (f .fact3 .given .1) at (p .3) in
-    let t = s .args .table .now in
-    let node = s .args .self .node in
-    let rows = s .args .rows .now in
-    let long = node-long s in
-    let at = end-read t node rows (p .2) long (r .0) (c .before .before .before .before .before .before .before .class-at4 .ensures) (r .1) refl (c .before .before .if3 .left) in
-    (omega (arith, at, p .2 .nodes), long)
-
-with-same-requires-2 : tie.Need-with-same-requires-2
-with-same-requires-2 c κs =
-    let f = c .before .before .before .before .before .before .before .before .before .before .before .before .before .before in
-    let s = f .before .before .before .before in
-    let p = s .pre in
-    let r = rw (f .fact3 .given .1) at (p .3) in
-    let t = s .args .table .now in
-    let node = s .args .self .node in
-    let rows = s .args .rows .now in
-    let long = node-long s in
-    (p .2, end-read t node rows (p .2) long (r .0) (c .before .before .before .before .before .before .before .before .before .before .class-at4 .ensures) (r .1) refl (c .before .before .before .before .before .if3 .left), r .2, p .1)
-
-returns : tie.Need-returns
-returns c =
-    let f = c .before .before .before .before .before .before .before in
-    let s = f .before .before .before .before in
-    let p = s .pre in
-    let r = rw (f .fact .given .1) at (p .3) in
-    let t = s .args .table .now in
-    let node = s .args .self .node in
-    let rows = s .args .rows .now in
-    let long = node-long s in
-    rw (f .fact .given .1) (kind-clashes t node rows (p .2) long (r .0) (c .before .before .before .class-at .ensures) (r .1) (c .before .meet .ensures) (c .if1 .taken))
-
-returns-2 : tie.Need-returns-2
-returns-2 c =
-    let f = c .before .before .before .before .before .before .before in
-    let s = f .before .before .before .before in
-    let p = s .pre in
-    let r = rw (f .fact .given .1) at (p .3) in
-    let t = s .args .table .now in
-    let node = s .args .self .node in
-    let rows = s .args .rows .now in
-    let long = node-long s in
-    rw (f .fact .given .1) (kind-took t node rows (p .2) long (r .0) (c .before .before .before .class-at .ensures) (r .1) (c .before .meet .ensures) (p .0) (c .if1 .left))
+cast-t36 : tie.Need-cast-t36
+cast-t36 c = search needs
 
 same-length : tie.Need-same-length
 same-length c = search needs
 
-returns-3 : tie.Need-returns-3
-returns-3 c =
-    let f = c .before .before .before .before .before .before .before .before .before .before .before .before in
-    rw (f .fact2 .given .1) (c .before .before .with-same .ensures)
+returns : tie.Need-returns
+returns c =
+    let s = c .before .before .before .before .before .before .before .before .before .before .before .before .before in
+    let r = rw (c .before .before .before .before .before .before .before .before .before .fact3 .given .1) at (s .pre .3) in
+    rw (c .before .before .before .before .before .before .before .before .before .fact3 .given .1) (took-taken _ _ (link-takes (s .pre .2) (lent s) (r .0) (r .1) (r .2) (rw (c .before .if1 .taken) at (c .before .before .before .before .put-link .ensures))), refl)
 
-returns-4 : tie.Need-returns-4
-returns-4 c =
-    let f = c .before .before .before .before .before .before .before .before in
-    let s = f .before .before .before .before in
-    let p = s .pre in
-    let r = rw (f .fact2 .given .1) at (p .3) in
-    let t = s .args .table .now in
-    let node = s .args .self .node in
-    let rows = s .args .rows .now in
-    let long = node-long s in
-    rw (f .fact2 .given .1) (same-took t node rows (p .2) long (r .0) (c .before .before .before .before .class-at2 .ensures) (p .0) (r .1) (c .before .class-at3 .ensures) (c .if2 .left))
+slice-aggregate-end-of : tie.Need-slice-aggregate-end-of
+slice-aggregate-end-of c = search needs
+
+end-of-requires : tie.Need-end-of-requires
+end-of-requires c κs =
+    let s = c .before .before .before .before .before .before .before .before .before .before .before .before .before .before in
+    let r = rw (c .before .before .before .before .before .before .before .before .before .before .fact3 .given .1) at (s .pre .3) in
+    let d = s .pre .2 in
+    let k = lent s in
+    let p = c .before .before .before .before .before .put-link .ensures .known (c .before .before .if1 .left) in
+    (k .class-size, rw (p .1) (k .rows-size), node-inside d k (r .0), class-read d k (r .0), r .1)
+
+with-same-requires-2 : tie.Need-with-same-requires-2
+with-same-requires-2 c κs =
+    let s = c .before .before .before .before .before .before .before .before .before .before .before .before .before .before .before .before in
+    let r = rw (c .before .before .before .before .before .before .before .before .before .before .before .before .fact3 .given .1) at (s .pre .3) in
+    let d = s .pre .2 in
+    let k = lent s in
+    let p = c .before .before .before .before .before .before .before .put-link .ensures .known (c .before .before .before .before .if1 .left) in
+    (rw (p .1) d, rw (c .before .end-of .ensures, p .1) (end-read d k (r .0) (r .1) (p .0)), r .2, rw (p .1) (k .rows-size))
+
+returns-2 : tie.Need-returns-2
+returns-2 c =
+    let s = c .before .before .before .before .before .before .before .before .before .before .before in
+    let r = rw (c .before .before .before .before .before .before .before .fact .given .1) at (s .pre .3) in
+    let d = s .pre .2 in
+    let k = lent s in
+    let m = c .before .met-kind .ensures in
+    (rw (c .before .before .before .before .before .before .before .fact .given .1) (record { taken = kind-takes d k (r .0) (r .1) m; refuted = kind-refutes d k (r .0) (r .1) m }), refl)
 
 same-length-2 : tie.Need-same-length-2
 same-length-2 c = search needs
 
-returns-5 : tie.Need-returns-5
-returns-5 c =
-    let f = c .before .before .before .before .before .before .before .before .before in
-    let s = f .before .before .before .before in
-    let p = s .pre in
-    let r = rw (f .fact3 .given .1) at (p .3) in
-    let t = s .args .table .now in
-    let node = s .args .self .node in
-    let rows = s .args .rows .now in
-    let long = node-long s in
-    rw (f .fact3 .given .1)
-    (free-took t node rows (p .2) long (r .0) (c .before .before .before .before .before .class-at4 .ensures) (r .1) (p .0) (r .2) (c .before .class-at5 .ensures) (p .1) (c .if3 .taken))
+returns-3 : tie.Need-returns-3
+returns-3 c = rw (c .before .before .before .before .before .fact2 .given .1) (c .before .before .with-same .ensures)
 
 same-length-3 : tie.Need-same-length-3
 same-length-3 c = search needs
 
-returns-6 : tie.Need-returns-6
-returns-6 c =
-    let f = c .before .before .before .before .before .before .before .before .before .before .before .before .before .before .before .before .before in
-    let s = f .before .before .before .before in
-    let p = s .pre in
-    let r = rw (f .fact3 .given .1) at (p .3) in
-    let t = s .args .table .now in
-    let node = s .args .self .node in
-    let rows = s .args .rows .now in
-    let long = node-long s in
-    rw (f .fact3 .given .1) (known-took t node rows (p .2) long (r .0) (c .before .before .before .before .before .before .before .before .before .before .before .before .before .class-at4 .ensures) (r .1) refl (c .before .before .before .before .before .before .before .before .if3 .left) (c .before .before .with-same2 .ensures))
-
-returns-7 : tie.Need-returns-7
-returns-7 c =
-    let f = c .before .before .before .before .before .before .before .before .before .before .before .before .before in
-    let s = f .before .before .before .before in
-    let p = s .pre in
-    let r = rw (f .fact3 .given .1) at (p .3) in
-    let t = s .args .table .now in
-    let node = s .args .self .node in
-    let rows = s .args .rows .now in
-    let long = node-long s in
-    let a = c .before .before .before .before .before .before .before .before .before .class-at4 .ensures in
-    let known = c .before .before .before .before .if3 .left in
-    let at = end-read t node rows (p .2) long (r .0) a (r .1) refl known in
-    rw (f .fact3 .given .1)
-    (known-took t node rows (p .2) long (r .0) a (r .1) refl known
-    (same-took t node rows (p .2) long at (c .before .class-at6 .ensures) (p .0) (r .2) (c .before .before .before .before .before .class-at5 .ensures) (c .if4 .left)))
+returns-4 : tie.Need-returns-4
+returns-4 c =
+    let s = c .before .before .before .before .before .before .before .before .before .before .before .before .before .before .before .before .before .before .before in
+    let r = rw (c .before .before .before .before .before .before .before .before .before .before .before .before .before .before .before .fact3 .given .1) at (s .pre .3) in
+    let d = s .pre .2 in
+    let k = lent s in
+    let p = c .before .before .before .before .before .before .before .before .before .before .put-link .ensures .known (c .before .before .before .before .before .before .before .if1 .left) in
+    let t = rw (c .before .before .before .before .end-of .ensures, p .1) at (c .before .before .with-same2 .ensures .0) in
+    (rw (c .before .before .before .before .before .before .before .before .before .before .before .before .before .before .before .fact3 .given .1) (known-took d k (r .0) (r .1) (p .0) t), c .before .before .with-same2 .ensures .1)
 
 pub with-fact-spec : {M : Type 1} → statement M
 with-fact-spec =
     tie.close
     (tie.spec
     enum-known-fact
-    class-at-requires
-    cast-known
-    element-copy-out-known
-    cast-meet
-    cast-meet-2
-    meet-requires
-    cast-form
-    element-write-form
+    slice-aggregate-met-kind
+    slice-aggregate-met-kind-2
+    met-kind-requires
+    cast-t27
     enum-known-fact-2
-    class-at-requires-2
-    class-at-requires-3
     with-same-requires
     enum-known-fact-3
-    class-at-requires-4
-    cast-at
-    mul-at
-    cast-at-2
-    add-at
-    slice-read-end
-    class-at-requires-5
-    slice-write-rows
-    class-at-requires-6
-    with-same-requires-2
-    returns
-    returns-2
+    slice-aggregate-put-link
+    put-link-requires
+    cast-t36
     same-length
-    returns-3
-    returns-4
+    returns
+    slice-aggregate-end-of
+    end-of-requires
+    with-same-requires-2
+    returns-2
     same-length-2
-    returns-5
+    returns-3
     same-length-3
-    returns-6
-    returns-7)
+    returns-4)
