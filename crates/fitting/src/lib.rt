@@ -125,7 +125,7 @@ fn rises(part: &[u8]) -> bool
     any == 0
 }
 
-// The higher of two.
+// A number that neither of two is above: the higher.
 fn higher(a: u8, b: u8) -> u8
     ensures { λ r. ⌜ (a ≤ r) × (b ≤ r) ⌝ }
 {

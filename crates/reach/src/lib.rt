@@ -26,7 +26,7 @@ fn mark(marks: u32, j: usize) -> u32
     marks | 1u32 << j
 }
 
-// A joint that is marked, the smallest one.
+// A joint that is marked.
 fn first_marked(marks: u32) -> usize
     requires { ⌜ 0 < marks ⌝ }
     ensures { λ j. ⌜ (j < 32) × Marked marks j ⌝ }

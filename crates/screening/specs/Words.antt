@@ -25,7 +25,7 @@ limitsFor tag kind same link = bitOr (bitOr (cond (eqb tag 1) kind 0) (cond (eqb
 abbrev pub gathered : ℕ → ℕ → ℕ → ℕ → ℕ
 gathered word kind same link = bitOr word (bitOr word highBits - limitsFor (word % 256) kind same link)
 
--- no limit is above 128
+-- limits that can be taken off a number whose bytes all have their highest bit
 pub record Limits (kind same link : ℕ) : Type 0 where
   pub kinds : kind ≤ highBits
   pub sames : same ≤ highBits

@@ -40,7 +40,7 @@ pub record RowPut (s : List ℕ) (j : ℕ) (row : List ℕ) (t : List ℕ) : Typ
   pub at : (l : ℕ) → l < 16 → getD t (j * 16 + l) 0 ≡ getD row l 0
   pub rest : (i l : ℕ) → l < 16 → i ≢ j → getD t (i * 16 + l) 0 ≡ getD s (i * 16 + l) 0
 
--- t is s with the links that a or b knows in the row of a, none in that of b, and number b become a in the first v rows
+-- t is s with the links that a or b knows in the row of a, zeros in that of b, and number b become a in the first v rows
 pub record RowsJoined (s : List ℕ) (v a b : ℕ) (t : List ℕ) : Type 0 where
   pub at-a : (l : ℕ) → l < 16 → getD t (a * 16 + l) 0 ≡ renumber b a (knownOf (getD s (a * 16 + l) 0) (getD s (b * 16 + l) 0))
   pub at-b : (l : ℕ) → l < 16 → getD t (b * 16 + l) 0 ≡ 0

@@ -30,7 +30,7 @@ pub record Lent (class kind rows : List ℕ) : Type 0 where
   pub kind-size : length kind ≡ 96
   pub rows-size : length rows ≡ rowsSize
 
--- no link leads to a node from `top` on
+-- no link leads to a node from `top` on; a zero of a node that has no row is read as a link, too
 pub record Named (top : ℕ) (S : Form) : Type 0 where
   pub some : 0 < top
   pub below : (j l : ℕ) → l < 16 → (S .link j l ≡ unknown) ⊎ (S .link j l < top)

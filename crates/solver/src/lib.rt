@@ -6,7 +6,7 @@ ghost use mathlib.Core.List.{List, [], _∷_};
 ghost use Prim.Native.Nat.{ℕ, _+_, _-_, _*_, _<_, _≤_};
 ghost use lib.ListN.{getD, length, set};
 ghost use Rattle.kinds.specs.Kinds.{meetAt};
-ghost use Rattle.meaning.specs.Picture.Fact.{has-kind, same, leads};
+ghost use Rattle.meaning.specs.Picture.Fact.{same};
 ghost use Rattle.meaning.specs.Form.{listForm, unknown, classes};
 ghost use Rattle.meaning.specs.Solving.{InRange};
 ghost use Rattle.solver.specs.Unpacked.{formOf, rowsSize, Lent, Named, nodeFact, Ready, Took, TookPlainly};
@@ -20,7 +20,7 @@ pub struct Solved {
     pub class: [u8; 96],
     // The kind of each class, at its smallest node; 0 at any other.
     pub kind: [u8; 96],
-    // From this node on no row names one.
+    // From this node on no row names one, where that is asked for (`Named`).
     pub top: u8,
     // False for a clash: then nothing is said of the nodes and the rows.
     pub ok: bool,
@@ -370,7 +370,7 @@ impl Solved {
     }
 }
 
-// Whether no link is known in both rows. All are looked at, and the answer is given once, behind them.
+// Whether no link is known in both rows; a "no" says nothing. All are looked at, and the answer is given once, behind them.
 fn none_in_both(x: [u8; 16], y: [u8; 16]) -> bool
     ensures { λ r. ⌜ (r ≡ true → (l : ℕ) → l < 16 → getD x l 0 ≢ unknown → getD y l 0 ≢ unknown → ⊥) ⌝ }
 {

@@ -16,6 +16,7 @@ use Rattle.taking.specs.Take.{After}
 abbrev pub withSolved : List ℕ → Solved → List ℕ → List ℕ
 withSolved b form rows = withForm b (form .class) (form .kind) rows
 
+-- a clash where no picture is left; otherwise the block with the form in it is the one after taking the packet, and the joins are counted
 pub record Solves (b p : List ℕ) (clash : Bool) (joins : ℕ) (form : Solved) (rows : List ℕ) : Type 0 where
   pub no-picture : clash ≡ true → NoPicture (rigOf b) (taken b ++ rigFacts p)
   pub after : clash ≡ false → After b (rigFacts p) (withSolved b form rows)

@@ -29,8 +29,8 @@ fn put_classes(to: &mut [u8], part: &[u8], old: usize, all: usize)
     }
 }
 
-// The form of a session of v joints, with k free nodes behind them: its nodes, and its rows in `rows`, which are zeros before. No row names
-// a free node.
+// The form of a session of v joints, with k free nodes behind them: its nodes, and its rows in `rows`, which are zeros before. Where
+// the session is well formed no row names a free node: `top` is v.
 pub fn unpack(rows: &mut [u8], session: &[u8], v: usize, k: usize) -> Solved
     requires { ⌜ (sessionSize ≤ length (now session)) × (v ≤ 64) × (k ≤ 32) ⌝ ∗ ⌜ now rows ≡ replicate rowsSize 0 ⌝ }
     ensures { λ r. ⌜ Extends v k (blockForm (now (session .entry))) (formOf r (now (rows .exit))) × (r .ok ≡ true) × (r .top ≡ v) ⌝ }
