@@ -503,7 +503,7 @@ uint64_t take(Byte* block, size_t block_size, const Byte* bytes, size_t size)
     Solver solver(block, 0);
     for (size_t i = 0; i < packet.fact_count; i++)
         if (!solver.add(packet.facts + i * fact_length, 0))
-            return packed(11);
+            return packed(11, head_length + i * fact_length);
     solver.store_into(block);
     return packed(0, 0, solver.joins);
 }

@@ -19,8 +19,8 @@
  *
  * vornulica_packets.h builds and reads packets, vornulica_blocks.h reads a block; vornulica.hpp is all of it for C++.
  *
- * What kinds, facts, rules and verdicts mean is told from nothing in docs/RULES.md, and what holds from one version of
- * the library to the next in README.md under "Between versions".
+ * What kinds, facts, rules and verdicts mean is told from nothing in docs/RULES.md, what holds from one version of the
+ * library to the next in README.md under "Between versions", and what each version brings a host in CHANGELOG.md.
  */
 #ifndef VORNULICA_H
 #define VORNULICA_H
@@ -28,6 +28,14 @@
 #include <stdbool.h>
 #include <stddef.h>
 #include <stdint.h>
+
+/* The version of this header and of the library beside it. RIG_VERSION is the text "major.minor.patch". */
+#define RIG_VERSION_MAJOR 1
+#define RIG_VERSION_MINOR 1
+#define RIG_VERSION_PATCH 0
+#define RIG_VERSION RIG_TEXT_OF(RIG_VERSION_MAJOR.RIG_VERSION_MINOR.RIG_VERSION_PATCH)
+#define RIG_TEXT_OF(expanded) RIG_TEXT_AS_IT_STANDS(expanded)
+#define RIG_TEXT_AS_IT_STANDS(text) #text
 
 /* An answer that is thrown away may have been a refusal: compilers that can, warn of it. */
 #if defined(__cplusplus) && __cplusplus >= 201703L
@@ -187,7 +195,9 @@ enum rig_reply {
     /* A rule joint is not reached: neither tied, nor the end of a link of a reached joint.
        Place: the number of the smallest such joint. */
     RIG_NOT_REACHED = 10,
-    /* Clash: no rig satisfies the packet together with the facts already taken. Place 0. */
+    /* Clash: no rig satisfies the packet together with the facts already taken.
+       Place: the offset of the first byte of the first fact such that no rig satisfies the facts already taken and
+       those of the packet up to and including it. */
     RIG_CLASH = 11,
     /* The output is shorter than the solved form. Place 0. */
     RIG_SHORT_OUTPUT = 12
@@ -282,7 +292,9 @@ RIG_NODISCARD uint64_t rig_open(uint64_t n, uint64_t v, const uint8_t* table, si
  *   RIG_BAD_HEADER  3 purpose not 1, 4 ties not 0, 5 joint count not the session's
  *   RIG_BAD_COUNT   place 0
  *   RIG_BAD_PART    at the first byte of the first such fact
- *   RIG_CLASH       place 0; a fact of kind 0 always clashes
+ *   RIG_CLASH       at the first byte of the first fact such that no rig satisfies the facts already taken and the
+ *                   packet's facts up to and including it; a fact of kind 0 always clashes. Sent again later in the
+ *                   session the packet clashes again, at this fact or at an earlier one
  * A refused call changes no byte of the block.
  */
 RIG_NODISCARD uint64_t rig_take(uint8_t* block, size_t block_size, const uint8_t* packet, size_t packet_size);

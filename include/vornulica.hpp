@@ -516,6 +516,14 @@ public:
         return as_fact<RuleJoint>(fact);
     }
 
+    // The number of the fact that lies at an offset, as the place of Reply::clash or Reply::bad_part:
+    //
+    //   const PacketReader sent(facts);
+    //   const auto clashing = sent.fact(sent.fact_number(answer.place));
+    //
+    // Of an offset before all facts it is one that no fact of the packet has.
+    [[nodiscard]] std::size_t fact_number(std::size_t offset) const noexcept { return rig_fact_number(&read_, offset); }
+
 private:
     template <class OwnJoint, class Read> static Fact<OwnJoint> as_fact(const Read& fact) noexcept
     {
@@ -632,7 +640,8 @@ public:
         return answer_of(rig_open(n, v, table.data(), table.size(), block_.data(), block_.size()));
     }
 
-    // Takes all facts of the packet; refused, none of them. The packet may not lie in this session's own block.
+    // Takes all facts of the packet; refused, none of them. The place of a clash is the offset of the fact with which
+    // it comes. The packet may not lie in this session's own block.
     [[nodiscard]] TakeAnswer take(const BytesArgument& packet) noexcept
     {
         return {answer_of(rig_take(block_.data(), block_.size(), packet.data(), packet.size()))};

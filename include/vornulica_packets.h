@@ -314,6 +314,14 @@ RIG_NODISCARD static inline size_t rig_fact_at(const struct rig_packet* packet, 
     return rig_tie_at(packet->ties) + RIG_FACT_SIZE * i;
 }
 
+/* The other way: the number of the fact, from 0, that lies at an offset, as the place of RIG_CLASH or RIG_BAD_PART. Of
+   an offset before all facts it is one that no fact of the packet has. */
+RIG_NODISCARD static inline size_t rig_fact_number(const struct rig_packet* packet, size_t offset)
+{
+    const size_t first = rig_fact_at(packet, 0);
+    return offset < first ? packet->facts : (offset - first) / RIG_FACT_SIZE;
+}
+
 /* The first way in which the bytes have not the form of a packet, once all the rest of it is read. */
 static inline void rig_packet_judge(struct rig_packet* packet, size_t size)
 {

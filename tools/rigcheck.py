@@ -99,7 +99,7 @@ class Packet:
         if number == 10:
             return f"rule joint {place} is not reached"
         if number == 11:
-            return "clash: no rig satisfies these facts and those taken before"
+            return f"clash: no rig satisfies the facts taken before and these up to and including {self.part_at(place)}"
         return f"reply {number}, place {place}"
 
     def words(self, word, number, place, third):

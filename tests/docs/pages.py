@@ -1,4 +1,4 @@
-"""Holds README.md and the pages of docs/ against the project. What is refused, with file and line:
+"""Holds the pages, those at the root and those of docs/, against the project. What is refused, with file and line:
 
 1. A path that is not there: in backticks whatever has a '/' or the suffix of a file; elsewhere whatever begins with a
    folder of the project, ends in such a suffix or has two '/'. It may be a folder or a pattern, as crates/*/specs, and
@@ -291,7 +291,7 @@ def check(root):
     project = Project(root)
     complaints, said, named = [], set(), set()
     allowed = read_words(project, complaints)
-    paths = [path for path in project.files if re.fullmatch(r"README\.md|docs/.*\.md", path)]
+    paths = [path for path in project.files if re.fullmatch(r"[^/]*\.md|docs/.*\.md", path)]
     for path in paths:
         page = Page(project, path, allowed)
         complaints += [text for line, text in sorted(page.complaints)]

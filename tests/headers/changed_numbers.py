@@ -1,7 +1,7 @@
 """Whether a changed header shows: each number that vornulica.h gives a name, and each by which it takes an answer
 apart, is changed in a copy of the header, and the tests of its numbers have to fail with that copy.
 
-    changed_numbers.py ARCHIVE FOLDER    the folder, with house_kinds.inc in it, is for what is built
+    changed_numbers.py ARCHIVE FOLDER    the folder, with house_kinds.inc and versions.inc in it, is for what is built
 """
 
 import pathlib

@@ -1,6 +1,8 @@
 /*
  * Each number of vornulica.h against the library, by a call that gives it. The inputs are worked out from document 01
- * and laid by hand, with the header's number in them or behind them, so that a changed number shows.
+ * and laid by hand, with the header's number in them or behind them, so that a changed number shows. The version, which
+ * no call gives, is held against that of CMakeLists.txt and that of CHANGELOG.md: versions.inc, made of them by the
+ * script beside this file, has a line VERSION("major.minor.patch") for each.
  */
 
 #include "expect.h"
@@ -217,8 +219,10 @@ static void packets_refused(void)
     tie(0, 0);
     EXPECT(is_refused(ask(), RIG_NOT_REACHED, 1));
     begin(RIG_FACTS, 0, 4);
+    fact(RIG_HAS_KIND, 0, 1, 0);
     fact(RIG_HAS_KIND, 0, 0, 0);
-    EXPECT(is_refused(take(), RIG_CLASH, 0));
+    fact(RIG_HAS_KIND, 0, 0, 0);
+    EXPECT(is_refused(take(), RIG_CLASH, RIG_HEAD_SIZE + RIG_FACT_SIZE));
 
     memset(block, 0, sizeof block);
     begin(RIG_FACTS, 0, 4);
@@ -275,7 +279,7 @@ static void verdicts(void)
     EXPECT(is_done_with(ask(), RIG_APPLIES));
     begin(RIG_FACTS, 0, 4);
     fact(RIG_HAS_KIND, 2, 3, 0);
-    EXPECT(is_refused(take(), RIG_CLASH, 0));
+    EXPECT(is_refused(take(), RIG_CLASH, 6));
 }
 
 /* Each reply's text speaks of what 01 gives the reply for, and no other number has one of its own. */
@@ -296,6 +300,22 @@ static void texts(void)
         EXPECT(strcmp(rig_reply_text(number), unknown) == 0);
 }
 
+static void versions(void)
+{
+    static const char* const stated[] = {
+#define VERSION(text) text,
+#include "versions.inc"
+#undef VERSION
+    };
+    char parts[32];
+    size_t i;
+    snprintf(parts, sizeof parts, "%d.%d.%d", RIG_VERSION_MAJOR, RIG_VERSION_MINOR, RIG_VERSION_PATCH);
+    EXPECT(strcmp(RIG_VERSION, parts) == 0);
+    EXPECT(sizeof stated / sizeof stated[0] == 2);
+    for (i = 0; i < sizeof stated / sizeof stated[0]; i++)
+        EXPECT(strcmp(stated[i], RIG_VERSION) == 0);
+}
+
 int main(void)
 {
     sizes_of_tables_and_blocks();
@@ -306,5 +326,6 @@ int main(void)
     layout_of_blocks();
     verdicts();
     texts();
+    versions();
     return expectations_missed == 0 ? 0 : 1;
 }

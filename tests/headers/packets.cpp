@@ -303,8 +303,12 @@ void parts_are_as_by_hand(const vornulica::PacketReader& reader, const Bytes& by
         const auto rule_fact = reader.rule_fact(i);
         EXPECT(fact.has_value() == is_facts && rule_fact.has_value() == is_rule);
         EXPECT((!fact || fact_read(*fact) == wanted) && (!rule_fact || fact_read(*rule_fact) == wanted));
+        const size_t first_byte = 6 + 2 * ties + 4 * i;
+        EXPECT(reader.fact_number(first_byte) == i && reader.fact_number(first_byte + 3) == i);
     }
     EXPECT(!reader.fact(facts) && !reader.rule_fact(facts) && !reader.fact(~size_t{0}));
+    for (const size_t offset : {size_t{0}, size_t{5}, 6 + 2 * ties - 1, 6 + 2 * ties + 4 * facts, ~size_t{0}})
+        EXPECT(reader.fact_number(offset) >= facts);
 }
 
 // In memory whose end may not be touched. The form says 5 and 8 of the replies, as far as no other comes between.

@@ -90,6 +90,24 @@ static void what_is_known(void)
     EXPECT(!rig_block_joint(block, sizeof block - 1, rig(0), &known));
 }
 
+/* Behind F, of which joint 2 is left, the second of these clashes. */
+static void clashing_fact(void)
+{
+    struct rig_facts_builder facts = rig_facts_begin(bytes, sizeof bytes, 4);
+    struct rig_packet sent;
+    struct rig_fact fact;
+    uint64_t answer;
+    EXPECT(rig_facts_kind(&facts, rig(3), RIG_KIND_HEAD));
+    EXPECT(rig_facts_kind(&facts, rig(2), RIG_KIND_RIGHT));
+    EXPECT(rig_facts_kind(&facts, rig(3), RIG_KIND_HAND));
+    answer = rig_take(block, sizeof block, bytes, rig_facts_size(&facts));
+    EXPECT(rig_number(answer) == RIG_CLASH && rig_place(answer) == 10);
+    sent = rig_packet_read(bytes, rig_facts_size(&facts));
+    EXPECT(rig_fact_number(&sent, rig_place(answer)) == 1);
+    EXPECT(rig_packet_fact(&sent, rig_fact_number(&sent, rig_place(answer)), &fact));
+    EXPECT(fact.tag == RIG_HAS_KIND && fact.joint.number == 2 && fact.number == RIG_KIND_RIGHT);
+}
+
 /* What does not fit is told, and leaves no packet in the buffer either. */
 static void full_buffers(void)
 {
@@ -108,6 +126,7 @@ int main(void)
     facts_of_the_examples();
     rules_of_the_examples();
     what_is_known();
+    clashing_fact();
     full_buffers();
     return expectations_missed == 0 ? 0 : 1;
 }

@@ -194,6 +194,15 @@ void sessions()
     EXPECT(written.done() && written.size() == 14);
     EXPECT(other.take({solved.data(), written.size()}).done() && other == session);
     EXPECT(session.write(MutableBytes()).reply == Reply::short_output);
+
+    // Of three facts the second clashes: joint 2 is left by now.
+    FactsPacket<3> facts(4);
+    facts.kind(RigJoint(3), HouseKind::head).kind(RigJoint(2), HouseKind::right).kind(RigJoint(3), HouseKind::hand);
+    const TakeAnswer refused = session.take(facts);
+    const PacketReader sent(facts);
+    const auto clashing = sent.fact(sent.fact_number(refused.place));
+    EXPECT(refused.reply == Reply::clash && refused.place == 10 && refused.joins() == 0 && session == other);
+    EXPECT(clashing && clashing->joint == RigJoint(2) && clashing->number == number_of(HouseKind::right));
 }
 
 void copies_of_packets()

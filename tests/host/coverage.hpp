@@ -44,6 +44,8 @@ public:
             if (answer.third() >= 32)
                 hit("32 joins or more at once");
         }
+        if (answer.number() == 11)
+            count_clash(block, packet, answer.place());
         if (call.name == Name::take && answer.number() == 8 && packet.size() == longest_solved_form + 4)
             hit("1,089 facts refused");
         if (answer.number() == 8 && packet.size() > 60000)
@@ -129,6 +131,13 @@ public:
                                  "facts taken at n = 64",
                                  "facts taken at V = 64",
                                  "32 joins or more at once",
+                                 "a clash at the first of several facts",
+                                 "a clash with facts behind it",
+                                 "a clash at the 1,088th fact",
+                                 "a clash by kind 0",
+                                 "a clash through joins far away",
+                                 "a clash through joins far away, with facts behind it",
+                                 "a clash through joins far away, at the 1,088th fact",
                                  "1,089 facts refused",
                                  "over 60,000 bytes refused",
                                  "an output of just the length",
@@ -151,6 +160,63 @@ private:
     static constexpr size_t verdict_count = 4;
 
     void hit(const std::string& what) { hits[what]++; }
+
+    void count_clash(const Bytes& block, const Bytes& packet, size_t place)
+    {
+        const bool has_facts_behind = place + fact_length < packet.size();
+        const bool is_last_of_most = place + fact_length == longest_solved_form;
+        const bool is_far = clashes_far_away(block, packet, place);
+        if (place == head_length && has_facts_behind)
+            hit("a clash at the first of several facts");
+        if (has_facts_behind)
+            hit("a clash with facts behind it");
+        if (is_last_of_most)
+            hit("a clash at the 1,088th fact");
+        if (packet[place] == 1 && packet[place + 2] == 0)
+            hit("a clash by kind 0");
+        if (is_far)
+            hit("a clash through joins far away");
+        if (is_far && has_facts_behind)
+            hit("a clash through joins far away, with facts behind it");
+        if (is_far && is_last_of_most)
+            hit("a clash through joins far away, at the 1,088th fact");
+    }
+
+    // Whether the fact at the place would not clash if kinds were known only of the joints that it is about and of
+    // those that a link leads to from them.
+    static bool clashes_far_away(const Bytes& block, const Bytes& packet, size_t place)
+    {
+        const auto at = packet.begin() + static_cast<std::ptrdiff_t>(place);
+        Fact fact;
+        std::copy_n(at, fact_length, fact.begin());
+        if (fact[0] == 1)
+            return false;
+        Implementation plain(paper::calls(paper::Fault::none));
+        Bytes before(packet.begin(), at);
+        set_length(before);
+        Bytes near = block;
+        plain.take(near, before);
+
+        std::array<bool, most_joints> kept{};
+        const auto keep = [&](size_t joint) {
+            const size_t its_class = near[classes_at + joint];
+            kept[its_class] = true;
+            for (size_t l = 0; l < links_per_joint; l++)
+                if (const Byte target = near[links_at + its_class * links_per_joint + l]; target != not_known)
+                    kept[target] = true;
+        };
+        keep(fact[1]);
+        if (fact[0] == 2)
+            keep(fact[2]);
+        if (fact[0] == 3) {
+            keep(near[links_at + near[classes_at + fact[1]] * links_per_joint + fact[2]]);
+            keep(fact[3]);
+        }
+        for (size_t joint = 0; joint < near[1]; joint++)
+            if (near[classes_at + joint] == joint && !kept[joint])
+                near[kinds_at + joint] = kind_any;
+        return plain.take(near, facts_packet(near[1], {fact})).number() == 0;
+    }
 
     size_t replies[name_count][number_count] = {};
     size_t verdicts[verdict_count] = {};

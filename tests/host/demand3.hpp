@@ -1,5 +1,6 @@
 // Demand 3 tried directly, without a second implementation to compare with: the order, the splitting and the repeating
-// of facts must not show, decided verdicts stay, a clash stays a clash, and the solved form gives the block back.
+// of facts must not show, decided verdicts stay, a clash stays a clash and never moves to a later fact, and the solved
+// form gives the block back.
 
 #ifndef HOST_DEMAND3_HPP
 #define HOST_DEMAND3_HPP
@@ -14,8 +15,14 @@ namespace host {
 
 class Demand3 {
 public:
+    struct Counts {
+        size_t calls = 0;
+        size_t sent_again = 0; // packets that had clashed
+        size_t at_earlier_fact = 0;
+    };
+
     // One round from one seed; gives a description of what fails, or nothing.
-    static std::string failing(const paper::Calls& calls, std::uint64_t seed, size_t& calls_made)
+    static std::string failing(const paper::Calls& calls, std::uint64_t seed, Counts& counts)
     {
         Demand3 round(calls, seed);
         std::string problem = round.orders();
@@ -23,7 +30,9 @@ public:
             problem = round.clashes();
         if (problem.empty())
             problem = round.foreign();
-        calls_made += round.tried.made;
+        counts.calls += round.tried.made;
+        counts.sent_again += round.sent_again;
+        counts.at_earlier_fact += round.at_earlier_fact;
         return problem.empty() ? "" : "demand 3, seed " + std::to_string(seed) + ": " + problem;
     }
 
@@ -51,6 +60,13 @@ private:
             from = to;
         }
         return list;
+    }
+    static std::vector<Fact> facts_of(const Bytes& packet)
+    {
+        std::vector<Fact> facts((packet.size() - head_length) / fact_length);
+        for (size_t i = 0; i < facts.size(); i++)
+            std::copy_n(packet.data() + packet_length(0, i), fact_length, facts[i].begin());
+        return facts;
     }
     std::vector<Fact> mixed_with_repeats(std::vector<Fact> facts)
     {
@@ -144,17 +160,69 @@ private:
         return "";
     }
 
-    // Facts that may contradict each other.
-    std::string clashes()
+    // The fact at the place of a clash is the first up to which the facts clash: a packet cut behind it clashes there,
+    // and one cut before it is taken.
+    std::string place_is_the_first(Bytes block, const Bytes& packet, size_t place)
+    {
+        if (place < head_length || place >= packet.size() || (place - head_length) % fact_length != 0)
+            return "a clash has a place at which no fact begins";
+        Bytes cut = packet;
+        cut.resize(place + fact_length);
+        set_length(cut);
+        const Answer with_it = tried.take(block, cut);
+        if (with_it.number() != 11 || with_it.place() != place)
+            return "facts clash at " + std::to_string(place) + ", but cut behind that fact they give " + with_it.text();
+        cut.resize(place);
+        set_length(cut);
+        if (tried.take(block, cut).number() != 0)
+            return "facts before the place of a clash clash, too";
+        return "";
+    }
+
+    struct Refused {
+        Bytes packet;
+        unsigned place; // at the last sending
+    };
+
+    std::string clashes_again(Bytes& block, Refused& refused)
+    {
+        const Answer answer = tried.take(block, refused.packet);
+        if (answer.number() != 11)
+            return "a packet that clashed was taken later";
+        if (answer.place() > refused.place)
+            return "a packet that clashed did so at a later fact when it was sent again";
+        sent_again++;
+        at_earlier_fact += answer.place() < refused.place;
+        refused.place = answer.place();
+        return "";
+    }
+
+    std::vector<Fact> facts_that_may_clash()
     {
         std::vector<Fact> facts;
-        for (size_t count = random.between(2, 30); count > 0; count--)
+        if (random.chance(50))
+            facts = clashing_facts(kinds, v, v + 40, random);
+        for (size_t count = random.between(2, 30); facts.size() < count;)
             facts.push_back(random.chance(80) ? holding_fact(kinds, v, hidden, random) : any_fact(kinds.n, v, random));
+        return facts;
+    }
+
+    // All of them in one packet, and then in small ones of another order. The large one, if it clashes, is sent again
+    // behind each of those, and so are the small ones that clash.
+    std::string clashes()
+    {
+        const std::vector<Fact> facts = facts_that_may_clash();
+        const Bytes whole = facts_packet(v, facts);
         Bytes together = opened();
-        const bool satisfiable = tried.take(together, facts_packet(v, facts)).number() == 0;
+        const Answer of_whole = tried.take(together, whole);
+        const bool satisfiable = of_whole.number() == 0;
 
         Bytes block = opened();
-        std::vector<Bytes> taken, refused;
+        std::vector<Fact> taken;
+        std::vector<Refused> refused;
+        if (!satisfiable)
+            refused.push_back({whole, of_whole.place()});
+        bool all_taken = true;
         for (const Bytes& packet : packets(mixed_with_repeats(facts), 4)) {
             const Bytes before = block;
             const Answer answer = tried.take(block, packet);
@@ -162,24 +230,35 @@ private:
                 return "a well-formed packet was answered with " + answer.text();
             if (answer.number() == 11 && block != before)
                 return "a refused packet changed the block";
-            (answer.number() == 0 ? taken : refused).push_back(packet);
+            std::string problem;
+            if (answer.number() == 0) {
+                const std::vector<Fact> all = facts_of(packet);
+                taken.insert(taken.end(), all.begin(), all.end());
+            } else {
+                all_taken = false;
+                problem = place_is_the_first(before, packet, answer.place());
+                refused.push_back({packet, answer.place()});
+            }
             const Bytes after = block;
-            for (const Bytes& again : refused)
-                if (tried.take(block, again).number() != 11)
-                    return "a packet that clashed was taken later";
+            for (size_t i = 0; i < refused.size() && problem.empty(); i++)
+                problem = clashes_again(block, refused[i]);
+            if (!problem.empty())
+                return problem;
             if (block != after)
                 return "a packet refused again changed the block";
         }
-        if (satisfiable != refused.empty())
+        if (satisfiable != all_taken)
             return "facts clash in one packet but not in several, or the other way round";
         if (satisfiable && block != together)
             return "facts in one packet gave another block than in several";
 
-        random.shuffle(taken);
         Bytes again = opened();
-        for (const Bytes& packet : taken)
+        for (const Bytes& packet : packets(mixed_with_repeats(taken), 8))
             if (tried.take(again, packet).number() != 0)
-                return "packets that were taken clash in another order";
+                return "facts that were taken clash in another order";
+        for (const Refused& one : refused)
+            if (tried.take(again, one.packet) != tried.take(block, one.packet))
+                return "two sessions with the same facts taken give a clashing packet two places";
         if (again != block)
             return "refused packets left a trace in the block";
         return solved_form_gives_it_back(block);
@@ -193,6 +272,8 @@ private:
     Kinds kinds;
     size_t v;
     Picture hidden;
+    size_t sent_again = 0;
+    size_t at_earlier_fact = 0;
 };
 
 } // namespace host

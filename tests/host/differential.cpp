@@ -1,5 +1,5 @@
 // The library against the plain version: random sessions from fixed seeds, and small inputs gone through one by one.
-// Then, without the plain version, the examples of document 01, small sessions by the meaning, and demand 3.
+// Then, without the plain version, the examples of the documents, small sessions by the meaning, and demand 3.
 //
 //   differential [--calls N]     at least N random calls, 250,000 if not given
 //   differential --session K     one session again, each of its calls described
@@ -91,11 +91,11 @@ bool compare_with_library(size_t calls_wanted)
         if (!library_agrees(sessions++, tried, plain, coverage, calls_made, false))
             differing++;
 
-    size_t demand3_calls = 0;
+    Demand3::Counts demand3;
     std::uint64_t rounds = 0;
-    for (; demand3_calls < calls_wanted / 2 && differing < most_differences_shown; rounds++) {
+    for (; demand3.calls < calls_wanted / 2 && differing < most_differences_shown; rounds++) {
         watch::now_at("demand 3, round " + std::to_string(rounds));
-        const std::string problem = Demand3::failing(library_by_c, rounds, demand3_calls);
+        const std::string problem = Demand3::failing(library_by_c, rounds, demand3);
         if (!problem.empty()) {
             std::printf("%s\n", problem.c_str());
             differing++;
@@ -103,12 +103,16 @@ bool compare_with_library(size_t calls_wanted)
     }
     std::printf("differential: %zu random calls in %llu sessions, %zu on small inputs, "
                 "%zu of demand 3 in %llu rounds, %zu differing\n",
-                calls_made, static_cast<unsigned long long>(sessions), swept_calls, demand3_calls,
+                calls_made, static_cast<unsigned long long>(sessions), swept_calls, demand3.calls,
                 static_cast<unsigned long long>(rounds), differing + swept_differing);
     coverage.print();
+    std::printf("  demand 3   %zu clashing packets sent again, %zu of them then clashing at an earlier fact\n",
+                demand3.sent_again, demand3.at_earlier_fact);
     if (differing > 0 || swept_differing > 0)
         return false; // cut short, so that what was missed says nothing
-    const std::string missing = coverage.missing();
+    std::string missing = coverage.missing();
+    if (demand3.at_earlier_fact == 0)
+        missing += "  never hit: a packet that clashes at an earlier fact when it is sent again\n";
     std::printf("%s", missing.c_str());
     return good && missing.empty();
 }
@@ -256,37 +260,56 @@ bool guards_work()
 bool guards_work() { return true; }
 #endif
 
+const std::set<Fault> errors_and_stand_ins = {
+    Fault::joins_stop_at_links,    Fault::unknown_link_rules_out,    Fault::kinds_compared_for_equality,
+    Fault::class_named_by_largest, Fault::clash_keeps_earlier_facts, Fault::always_waits,
+    Fault::refuses_every_packet,   Fault::takes_first_packet_only,   Fault::stores_nothing,
+    Fault::invented_joins,
+};
+const std::set<Fault> wrong_places_of_clashes = {
+    Fault::clash_has_no_place,
+    Fault::clash_at_fact_before,
+    Fault::clash_at_last_fact,
+    Fault::far_clash_at_last_fact,
+};
+std::set<Fault> all_of(const std::vector<std::set<Fault>>& sets)
+{
+    std::set<Fault> all;
+    for (const std::set<Fault>& faults : sets)
+        all.insert(faults.begin(), faults.end());
+    return all;
+}
+
 bool self_check(size_t most_calls, bool verbose)
 {
     bool good = guards_work() && tables_are_lawful();
-    good &= check_tells_apart("the examples of 01", [](const paper::Calls& calls) { return Examples::failing(calls); },
-                              {Fault::joins_stop_at_links, Fault::unknown_link_rules_out,
-                               Fault::kinds_compared_for_equality, Fault::clash_keeps_earlier_facts,
-                               Fault::class_named_by_largest, Fault::always_waits, Fault::refuses_every_packet,
-                               Fault::stores_nothing, Fault::takes_first_packet_only, Fault::invented_joins,
-                               Fault::facts_1089_pass, Fault::facts_1088_refused, Fault::kind_any_written,
-                               Fault::rest_of_output_cleared, Fault::house_meet_by_largest_number});
-    good &= check_tells_apart("the meaning by all pictures",
-                              [](const paper::Calls& calls) { return Meaning::failing(calls, meaning_sessions); },
-                              {Fault::joins_stop_at_links, Fault::unknown_link_rules_out,
-                               Fault::kinds_compared_for_equality, Fault::clash_keeps_earlier_facts,
-                               Fault::class_named_by_largest, Fault::always_waits, Fault::refuses_every_packet,
-                               Fault::stores_nothing, Fault::takes_first_packet_only, Fault::invented_joins,
-                               Fault::kind_zero_refused, Fault::rule_joins_stop_at_links, Fault::repeated_tie_ignored,
-                               Fault::new_link_still_applies, Fault::new_kind_still_applies,
-                               Fault::new_join_still_applies, Fault::ask_stores});
-    good &=
-        check_tells_apart("demand 3",
-                          [](const paper::Calls& calls) {
-                              std::string problem;
-                              size_t calls_made = 0;
-                              for (std::uint64_t seed = 0; seed < 300 && problem.empty(); seed++)
-                                  problem = Demand3::failing(calls, seed, calls_made);
-                              return problem;
-                          },
-                          {Fault::joins_stop_at_links, Fault::unknown_link_rules_out, Fault::clash_keeps_earlier_facts,
-                           Fault::class_named_by_largest, Fault::refuses_every_packet, Fault::takes_first_packet_only,
-                           Fault::invented_joins, Fault::last_link_forgotten, Fault::ask_stores});
+    good &= check_tells_apart(
+        "the examples", [](const paper::Calls& calls) { return Examples::failing(calls); },
+        all_of({errors_and_stand_ins,
+                wrong_places_of_clashes,
+                {Fault::facts_1089_pass, Fault::facts_1088_refused, Fault::kind_any_written,
+                 Fault::rest_of_output_cleared, Fault::house_meet_by_largest_number}}));
+    good &= check_tells_apart(
+        "the meaning by all pictures",
+        [](const paper::Calls& calls) { return Meaning::failing(calls, meaning_sessions); },
+        all_of({errors_and_stand_ins,
+                wrong_places_of_clashes,
+                {Fault::kind_zero_refused, Fault::rule_joins_stop_at_links, Fault::repeated_tie_ignored,
+                 Fault::new_link_still_applies, Fault::new_kind_still_applies, Fault::new_join_still_applies,
+                 Fault::ask_stores}}));
+    good &= check_tells_apart(
+        "demand 3",
+        [](const paper::Calls& calls) {
+            std::string problem;
+            Demand3::Counts counts;
+            for (std::uint64_t seed = 0; seed < 300 && problem.empty(); seed++)
+                problem = Demand3::failing(calls, seed, counts);
+            return problem;
+        },
+        all_of({wrong_places_of_clashes,
+                {Fault::joins_stop_at_links, Fault::unknown_link_rules_out, Fault::clash_keeps_earlier_facts,
+                 Fault::class_named_by_largest, Fault::refuses_every_packet, Fault::takes_first_packet_only,
+                 Fault::invented_joins, Fault::last_link_forgotten, Fault::ask_stores}}));
     good &= faults_caught_by_stream(most_calls, verbose);
     return good;
 }

@@ -1,4 +1,5 @@
-// The examples of document 01, and its list of errors, with the answers it gives.
+// The examples of document 01, and its list of errors, with the answers it gives; and clashes whose places follow from
+// document 02.
 
 #ifndef HOST_EXAMPLES_HPP
 #define HOST_EXAMPLES_HPP
@@ -19,6 +20,7 @@ public:
         examples.facts_and_rules();
         examples.sizes();
         examples.errors();
+        examples.places_of_clashes();
         return examples.failed;
     }
 
@@ -90,7 +92,7 @@ private:
         expect("P10", ask(block, {1, {{0, 1}, {0, 2}}, {}}) == reply(0, 0, 1));
         expect("P11", ask(block, {1, {{0, 1}, {0, 3}}, {}}) == reply(0, 0, 3));
         const Bytes before = block;
-        expect("P12", take(block, {has_kind(2, 3)}) == reply(11) && block == before);
+        expect("P12", take(block, {has_kind(2, 3)}) == reply(11, 6) && block == before);
         expect("a joint not reached", ask(block, {2, tied, {}}) == reply(10, 1));
         expect("a packet of no facts", take(block, {}) == reply(0) && block == before);
     }
@@ -134,10 +136,40 @@ private:
         block = opened(4);
         const Bytes before = block;
         expect("error 4",
-               take(block, {has_kind(0, 11), is_one_with(1, 2), has_kind(0, 18)}) == reply(11) && block == before);
+               take(block, {has_kind(0, 11), is_one_with(1, 2), has_kind(0, 18)}) == reply(11, 14) && block == before);
 
         take(block, {is_one_with(3, 1), is_one_with(1, 2)});
         expect("error 5", block[classes_at + 1] == 1 && block[classes_at + 2] == 1 && block[classes_at + 3] == 1);
+    }
+
+    // Fact i stands at 6 + 4 i.
+    void places_of_clashes()
+    {
+        Bytes block = opened(8);
+        expect("kind 0", take(block, {has_kind(1, 9), has_kind(0, 0), has_kind(1, 10)}) == reply(11, 10));
+        expect("two kinds that shut each other out",
+               take(block, {has_kind(1, 9), has_kind(0, 2), has_kind(1, 10), has_kind(0, 3)}) == reply(11, 14));
+
+        // Rows 0, 1, 2 and 3, 4, 5 along link 1, one left and one right at its end.
+        const std::vector<Fact> rows = {link_leads(0, 1, 1), link_leads(1, 1, 2), link_leads(3, 1, 4),
+                                        link_leads(4, 1, 5), has_kind(2, 2),      has_kind(5, 3)};
+        std::vector<Fact> facts = rows;
+        facts.push_back(is_one_with(0, 3));
+        facts.push_back(has_kind(6, 1));
+        expect("a clash two links away", take(block, facts) == reply(11, 30));
+        facts = rows;
+        facts.insert(facts.begin(), {link_leads(7, 0, 0), link_leads(7, 0, 3)});
+        expect("rows joined before their ends are known", take(block, facts) == reply(11, 34));
+
+        // Sent again, it clashes at an earlier fact once more is known.
+        const std::vector<Fact> sent = {is_one_with(6, 7), has_kind(6, 2), has_kind(7, 3)};
+        expect("a clash at the last fact", take(block, sent) == reply(11, 14));
+        expect("one fact more", take(block, {has_kind(7, 12)}) == reply(0));
+        expect("a clash sent again", take(block, sent) == reply(11, 10));
+
+        facts.assign(most_facts - 1, is_one_with(4, 4));
+        facts.push_back(has_kind(7, 11));
+        expect("a clash at the 1,088th fact", take(block, facts) == reply(11, 4354));
     }
 
     Implementation tried;

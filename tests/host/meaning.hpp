@@ -1,5 +1,5 @@
 // Small sessions decided by the meaning itself: all pictures with enough elements are gone through, and all placings in
-// each. Nothing is solved here, so that a mistake in how solving was argued would show.
+// each. Nothing is solved here, so that a mistake in how solving was argued, or a clash's place, would show.
 
 #ifndef HOST_MEANING_HPP
 #define HOST_MEANING_HPP
@@ -45,7 +45,7 @@ private:
         }
         elements = v + rule_joints;
         kind_share = random.pick_of<size_t>({10, 40, 60});
-        const size_t n = random.between(2, 4);
+        const size_t n = random.pick_of<size_t>({2, 3, 4, 4}); // fewer than 4 have no two kinds that clash
         kinds = n < 4 ? chain_kinds(n, random) : random.chance(50) ? flat_kinds(n, random) : family_kinds(n, random);
     }
 
@@ -66,12 +66,17 @@ private:
             return picture.link[fact[2]][a] == placed[fact[3]];
         }
     }
+    // How many of the facts hold before the first that does not.
+    size_t holding(const Small& picture, const Byte* placed, const std::vector<Fact>& facts) const
+    {
+        size_t count = 0;
+        while (count < facts.size() && holds(picture, placed, facts[count]))
+            count++;
+        return count;
+    }
     bool all_hold(const Small& picture, const Byte* placed, const std::vector<Fact>& facts) const
     {
-        for (const Fact& fact : facts)
-            if (!holds(picture, placed, fact))
-                return false;
-        return true;
+        return holding(picture, placed, facts) == facts.size();
     }
 
     // Counts up in a mixed base; false after the last.
@@ -215,22 +220,30 @@ private:
                 if (kinds.n > 3 && random.chance(70)) {
                     facts.push_back(has_kind(c, 2));
                     facts.push_back(has_kind((c + 1) % v, 3));
+                    if (random.chance(35))
+                        facts.push_back(is_one_with(a, (a + 1) % v));
                 }
             }
             for (size_t count = random.between(1, 3); count > 0; count--)
                 facts.push_back(small_fact(v));
-            std::vector<Fact> all = taken;
-            all.insert(all.end(), facts.begin(), facts.end());
 
-            bool satisfiable = false;
-            each_rig(all, [&](const Small&, const Byte*) { satisfiable = true; });
+            // No picture of the taken facts has more of these before the first that does not hold: up to and including
+            // that one they have none.
+            size_t most_holding = 0;
+            each_rig(taken, [&](const Small& picture, const Byte* placed) {
+                most_holding = std::max(most_holding, holding(picture, placed, facts));
+            });
+            const bool satisfiable = most_holding == facts.size();
             const size_t classes_before = count_classes(block);
             const Answer answer = tried.take(block, facts_packet(v, facts));
             if (answer.number() != (satisfiable ? 0u : 11u))
                 return std::string("facts are ") + (satisfiable ? "" : "not ") + "satisfiable, but take gave " +
                        answer.text();
+            if (!satisfiable && answer.place() != packet_length(0, most_holding))
+                return "facts 0 to " + std::to_string(most_holding) +
+                       " are the first that have no picture, but take gave " + answer.text();
             if (satisfiable)
-                taken = all;
+                taken.insert(taken.end(), facts.begin(), facts.end());
             if (answer.third() != classes_before - count_classes(block))
                 return "take gave " + answer.text() + ", which are not the joins";
 

@@ -147,6 +147,77 @@ inline std::vector<Fact> far_reaching_facts(size_t v, Random& random)
     return facts;
 }
 
+// Two kinds that meet in none, neither of which is none; both none where no such two were found.
+inline std::pair<Byte, Byte> kinds_that_clash(const Kinds& kinds, Random& random)
+{
+    for (size_t attempt = 0; attempt < 32; attempt++) {
+        const Byte s = static_cast<Byte>(random.between(1, kinds.n - 1));
+        const Byte t = static_cast<Byte>(random.between(1, kinds.n - 1));
+        if (kinds.meet(s, t) == 0)
+            return {s, t};
+    }
+    return {0, 0};
+}
+
+// Two rows of joints along one link, whose last joints have kinds that clash. The last fact makes their first joints
+// one, by itself or as the second of two that a link leads to: it clashes as many links away as the rows are long.
+// Empty where joints or kinds do not suffice.
+inline std::vector<Fact> far_clash(const Kinds& kinds, size_t v, Random& random)
+{
+    constexpr size_t shortest = 3;
+    const size_t longest = (v - 1) / 2;
+    const auto [s, t] = kinds_that_clash(kinds, random);
+    if (longest < shortest || s == 0)
+        return {};
+    const size_t length = random.between(shortest, longest);
+    Bytes joint(v);
+    for (size_t i = 0; i < v; i++)
+        joint[i] = static_cast<Byte>(i);
+    random.shuffle(joint);
+
+    const size_t link = random.below(links_per_joint);
+    const size_t first = joint[0], second = joint[length], outside = joint[2 * length];
+    std::vector<Fact> facts = {has_kind(joint[length - 1], s), has_kind(joint[2 * length - 1], t)};
+    for (size_t i = 0; i + 1 < length; i++) {
+        facts.push_back(link_leads(joint[i], link, joint[i + 1]));
+        facts.push_back(link_leads(joint[length + i], link, joint[length + i + 1]));
+    }
+    const bool by_link = random.chance(50);
+    if (by_link)
+        facts.push_back(link_leads(outside, link, first));
+    random.shuffle(facts);
+    facts.push_back(by_link ? link_leads(outside, link, second) : is_one_with(first, second));
+    return facts;
+}
+
+inline Fact always_true_fact(size_t v, Random& random)
+{
+    const size_t a = random.below(v);
+    return random.chance(50) ? has_kind(a, kind_any) : is_one_with(a, a);
+}
+
+// So many facts at most, that clash whatever is known: by kind 0, by two kinds of one joint, or far away. Before them
+// come facts that are always true, at times as many as there is room for, and behind them any, which may clash as well.
+inline std::vector<Fact> clashing_facts(const Kinds& kinds, size_t v, size_t most, Random& random)
+{
+    const size_t joint = random.below(v);
+    const auto [s, t] = kinds_that_clash(kinds, random);
+    std::vector<Fact> facts = random.chance(60) ? far_clash(kinds, v, random) : std::vector<Fact>();
+    if (facts.empty() && random.chance(50))
+        facts = {has_kind(joint, 0)};
+    else if (facts.empty())
+        facts = {has_kind(joint, s), has_kind(joint, t)};
+
+    const size_t room = most - facts.size();
+    std::vector<Fact> before(random.chance(15) ? room : std::min(room, random.pick_of<size_t>({0, 0, 5, 20})));
+    for (Fact& fact : before)
+        fact = always_true_fact(v, random);
+    facts.insert(facts.begin(), before.begin(), before.end());
+    for (size_t behind = random.below(10); behind > 0 && facts.size() < most; behind--)
+        facts.push_back(any_fact(kinds.n, v, random));
+    return facts;
+}
+
 } // namespace host
 
 #endif

@@ -442,10 +442,13 @@ template <Fault fault> struct Paper {
             }
         }
 
+        bool sees_no_far_joins = false; // of a single fault alone
+
     private:
         bool joins_stop() const
         {
-            return has(Fault::joins_stop_at_links) || (has(Fault::rule_joins_stop_at_links) && with_rule);
+            return has(Fault::joins_stop_at_links) || (has(Fault::rule_joins_stop_at_links) && with_rule) ||
+                   sees_no_far_joins;
         }
 
         const Byte* table;
@@ -455,6 +458,41 @@ template <Fault fault> struct Paper {
         Byte kind[nodes];
         Byte link[nodes][link_count];
     };
+
+    // -------------------------------------------------------------------- clashes
+
+    // Whether the block's facts and the packet's first `count` facts have a picture.
+    // That is asked of a set of facts: they are gone through from the last to the
+    // first, so that the answer for a set owes nothing to the order of sending.
+    static bool have_picture(const Byte* block, const Packet& packet, size_t count)
+    {
+        Solver solver(block);
+        for (size_t i = count; i > 0; i--)
+            if (!solver.add(packet.fact(i - 1), 0))
+                return false;
+        return true;
+    }
+
+    // Of a packet that clashes: the first byte of the first fact such that the block's
+    // facts and the packet's facts up to and including it have no picture. The paper's
+    // sentence is followed as it stands: the facts 0 to i are asked afresh for each i
+    // in turn, and the last fact needs no asking. Where a solver stops that is handed
+    // one fact after another does not enter into it.
+    static Reply clash(const Byte* bytes, const Byte* block, const Packet& packet)
+    {
+        if constexpr (has(Fault::clash_has_no_place))
+            return {11};
+        size_t i = 0;
+        while (i + 1 < packet.fact_count && have_picture(block, packet, i + 1))
+            i++;
+        if (has(Fault::clash_at_fact_before) && i > 0)
+            i--;
+        if constexpr (has(Fault::clash_at_last_fact))
+            i = packet.fact_count - 1;
+        if constexpr (has(Fault::far_clash_at_last_fact))
+            i = clash_without_far_joins(block, packet);
+        return {11, static_cast<size_t>(packet.fact(i) - bytes)};
+    }
 
     // ------------------------------------------------------------------- verdicts
 
@@ -590,12 +628,13 @@ template <Fault fault> struct Paper {
             if constexpr (has(Fault::clash_keeps_earlier_facts)) {
                 Solver next = solver;
                 if (!next.add(packet.fact(i), 0)) {
+                    const Reply refusal = clash(bytes, block, packet);
                     solver.store(block);
-                    return Reply{11}.packed();
+                    return refusal.packed();
                 }
             }
             if (!solver.add(packet.fact(i), 0))
-                return Reply{11}.packed();
+                return clash(bytes, block, packet).packed();
         }
 
         size_t after = 0;
@@ -725,6 +764,18 @@ template <Fault fault> struct Paper {
                     return false;
         }
         return true;
+    }
+
+    // Where the facts clash one after another, if a join leads to no others through
+    // links; the last fact if nowhere.
+    static size_t clash_without_far_joins(const Byte* block, const Packet& packet)
+    {
+        Solver solver(block);
+        solver.sees_no_far_joins = true;
+        size_t i = 0;
+        while (i + 1 < packet.fact_count && solver.add(packet.fact(i), 0))
+            i++;
+        return i;
     }
 
     static bool clashes_before(const Byte* block, const Packet& packet, const Byte* bad)

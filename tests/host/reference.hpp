@@ -1,5 +1,5 @@
-// A plain C++ version of document 01, written from the paper alone, so that an agreement between it and the library
-// says something about both.
+// A plain C++ version of documents 01 and 02, as far as the orders of 02 have landed (order 1), written from the papers
+// alone, so that an agreement between it and the library says something about both.
 //
 // The same source can be compiled with one deliberate fault at a time. The faults exist to show that the tests around
 // this file would notice them.
@@ -68,6 +68,10 @@ struct Calls {
     X(equality_reaches)            \
     X(largest_unreached_named)     \
     X(clash_before_bad_fact)       \
+    X(clash_has_no_place)          \
+    X(clash_at_fact_before)        \
+    X(clash_at_last_fact)          \
+    X(far_clash_at_last_fact)      \
     X(last_link_forgotten)         \
     X(rule_joins_stop_at_links)    \
     X(repeated_tie_ignored)        \

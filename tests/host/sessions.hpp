@@ -154,6 +154,7 @@ private:
         if (!refused_or_odd.empty() && random.chance(8))
             return random.pick(refused_or_odd);
 
+        const bool clashing = random.chance(5);
         std::vector<Fact> facts;
         const size_t roll = random.below(1000);
         const size_t count = roll < 50    ? 0
@@ -163,9 +164,11 @@ private:
                              : roll < 990 ? random.between(301, most_facts)
                                           : most_facts;
         const size_t loose = random.pick_of<size_t>({0, 0, 0, 2, 30, 100});
-        if (random.chance(7))
+        if (clashing)
+            facts = clashing_facts(kinds, v, most_facts, random);
+        else if (random.chance(7))
             facts = far_reaching_facts(v, random);
-        while (facts.size() < count)
+        while (facts.size() < count && !clashing)
             facts.push_back(random.chance(loose) ? any_fact(kinds.n, v, random)
                                                  : holding_fact(kinds, v, hidden, random));
         Bytes packet = facts_packet(v, facts);
@@ -174,7 +177,7 @@ private:
             if (random.chance(20))
                 damage_packet(packet, kinds.n, v, random);
         }
-        if (loose > 0 && refused_or_odd.size() < 8)
+        if ((loose > 0 || clashing) && refused_or_odd.size() < 8)
             refused_or_odd.push_back(packet);
         return packet;
     }

@@ -21,6 +21,7 @@ public:
         near_house_tables();
         blocks();
         packets();
+        clashes();
         lengths();
     }
 
@@ -150,6 +151,30 @@ private:
                 row.facts.push_back(link_leads(0, 1, joints - 1));
                 visit(call_with(Name::ask, {{block_slot, block}, {packet_slot, row.packet()}}));
             }
+    }
+
+    // Each sort of clash at each place of a small packet and about both ends of the largest one, among facts that are
+    // known already; then with a second clash behind it.
+    void clashes()
+    {
+        const Kinds house = house_kinds();
+        const Fact known = has_kind(6, 7);
+        // The ends of two rows of links have kinds that shut each other out.
+        const Bytes block = block_after(house, 8,
+                                        {known, link_leads(0, 1, 1), link_leads(1, 1, 2), link_leads(3, 1, 4),
+                                         link_leads(4, 1, 5), has_kind(2, 2), has_kind(5, 3), link_leads(7, 0, 0)});
+        const std::vector<Fact> sorts = {has_kind(7, 0),      has_kind(6, 9),    has_kind(2, 12),    is_one_with(2, 5),
+                                         link_leads(1, 1, 5), is_one_with(0, 3), link_leads(7, 0, 3)};
+        for (const size_t count : {size_t{1}, size_t{2}, size_t{9}, most_facts})
+            for (size_t at = 0; at < count; at++)
+                if (at < 9 || at + 9 >= count)
+                    for (const Fact& clashing : sorts) {
+                        std::vector<Fact> all(count, known);
+                        all[at] = clashing;
+                        visit(call_with(Name::take, {{block_slot, block}, {packet_slot, facts_packet(8, all)}}));
+                        all[count - 1] = has_kind(7, 0);
+                        visit(call_with(Name::take, {{block_slot, block}, {packet_slot, facts_packet(8, all)}}));
+                    }
     }
 
     void lengths()

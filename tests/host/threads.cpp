@@ -125,6 +125,10 @@ void record_largest(Recorder& recorder)
         ends_first.push_back(link_leads(joint - 1, 0, joint));
     take("halves of a row joined", fresh, ends_first);
 
+    std::vector<Fact> clashing(most_facts - 1, is_one_with(63, 63));
+    clashing.push_back(has_kind(63, 0));
+    take("a clash at the last of the most facts", full, clashing);
+
     Rule rule;
     rule.joints = most_rule_joints;
     for (size_t tie = 0; tie < most_ties; tie++)

@@ -4,7 +4,8 @@
 
 #include <vornulica.h>
 
-/* Every number below stands in 01, under "Examples". The host's number: number + 256 x third + 2^32 x place. */
+/* Every number below stands in 01, under "Examples", but for the place of P12, which 02 gives with order 1. The host's
+   number: number + 256 x third + 2^32 x place. */
 #define ANSWER(number, third, place) ((uint64_t)(number) + 256 * (uint64_t)(third) + ((uint64_t)(place) << 32))
 
 /* clang-format off */
@@ -47,7 +48,7 @@ int wrong_answers(void)
 
     wrong += rig_open(33, 4, table, sizeof table, block, sizeof block) != ANSWER(0, 0, 0);
     wrong += rig_take(block, sizeof block, facts, sizeof facts) != ANSWER(0, 1, 0);
-    wrong += rig_take(block, sizeof block, clashing_fact, sizeof clashing_fact) != ANSWER(11, 0, 0);
+    wrong += rig_take(block, sizeof block, clashing_fact, sizeof clashing_fact) != ANSWER(11, 0, 6);
     wrong += rig_ask(block, sizeof block, applying_rule, sizeof applying_rule) != ANSWER(0, 1, 0);
     wrong += rig_ask(block, sizeof block, ruled_out_rule, sizeof ruled_out_rule) != ANSWER(0, 2, 0);
     wrong += rig_ask(block, sizeof block, waiting_rule, sizeof waiting_rule) != ANSWER(0, 3, 0);

@@ -18,7 +18,7 @@ WANTED = {
     "ask, kind 3 last": 256 * 2,  # P7 is ruled out
     "ask, kind 21": 256 * 3,  # P8 waits
     "ask, not reached": 10 + (1 << 32),
-    "take, clash": 11,  # P12
+    "take, clash": 11 + (6 << 32),  # P12, with the place that order 1 of 02 gives it
     "write": 256 * 22,
 }
 SOLVED_FORM = "00 14 01 01 00 04 01 00 0B 00 03 00 01 01 01 01 17 00 02 02 01 00"  # P5

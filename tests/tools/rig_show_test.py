@@ -128,7 +128,8 @@ def test_refused_packets():
         arm = file.read() + b"\n"
     line = arm.count(b"\n") + 1
     tried = {
-        b"0008 01010004 01020300": "refused: clash: no rig satisfies these facts and those taken before",
+        b"0008 01010004 01020300": "refused: clash: no rig satisfies the facts taken before and these up to and including "
+        f"fact 1 (01 02 03 00, line {line})",
         b"0006 01020102 0000": "refused: rule joint 1 is not reached",
         b"00": "the input ends inside it",
         b"0008 01010004 0102": "the input ends inside it",

@@ -8,3 +8,4 @@ pub mod Takes
 pub mod Extend
 pub mod Asked
 pub mod Later
+pub mod Clash

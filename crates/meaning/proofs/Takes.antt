@@ -6,12 +6,12 @@ use Prim.Native.Nat.{ℕ, _<_}
 use Rattle.kinds.specs.Laws.{Lawful}
 use Rattle.meaning.specs.declared.RigJoint.{RigJoint}
 use Rattle.meaning.specs.Picture.{Picture, Fact, All, rename}
-use Rattle.meaning.specs.Rig.{Rig, meetOf, NoPicture, SameMeaning}
+use Rattle.meaning.specs.Rig.{Rig, meetOf, NoPicture, SomePicture, SameMeaning}
 use Rattle.meaning.specs.Form.{Form, rigJoint, takenFacts}
 use Rattle.meaning.specs.Solving.{Well, rigNumber, Models, Taken, Refuted}
 use Rattle.meaning.proofs.Rigs.{LawfulRig, counts-every}
 use Rattle.meaning.proofs.Facts.{byNumber, all-append, all-left, all-right, all-rename, models→taken, taken→models}
-use Rattle.meaning.proofs.Canon.{canon, canon-placing, canon-models}
+use Rattle.meaning.proofs.Canon.{canon, canon-placing, canon-rig-placing, canon-models, canon-taken, atClass}
 
 module _ {n : ℕ} {meet : ℕ → ℕ → ℕ} {v : ℕ} {S : Form} where
   pub taken-none : Well n v S → Taken n meet v S [] S
@@ -84,6 +84,20 @@ module _ {R : Rig} (g : LawfulRig R) (S : Form) (fs : List (Fact RigJoint)) wher
         from-nodes P σ (m .0) (m .1),
     λ a. models→taken (g .lawful) (g .two) v T P σ (t .means P (byNumber σ) (λ j. placed (rigJoint j)) .1 (to-nodes P σ a)),
   )
+
+  -- facts that a form has taken have a picture, the form's own
+  pub taken-picture : {T : Form} → Taken (R .kinds) meet v S (map (rename rigNumber) fs) T → SomePicture R (takenFacts v S ++ fs)
+  taken-picture {T} t =
+      let here = canon (g .some) (t .well) in
+      let counts = counts-every (R .profile) here in
+      let placed = canon-rig-placing (g .some) (t .well) in
+      record {
+        picture = here;
+        placing = atClass T;
+        counts = counts;
+        placed = placed;
+        holds = taken-means t here (atClass T) counts placed .0 (canon-taken (g .lawful) (g .two) (g .some) (t .well));
+      }
 
   pub refuted-clash : Refuted (R .kinds) meet v S (map (rename rigNumber) fs) → NoPicture R (takenFacts v S ++ fs)
   refuted-clash c P σ _ placed a = c P (byNumber σ) (λ j. placed (rigJoint j)) (to-nodes P σ a .0) (to-nodes P σ a .1)

@@ -2,8 +2,9 @@
 -- verdicts are stated over it, and bytes stand for it.
 -- Assumes nothing.
 use mathlib.Core.Logic.{_↔_}
-use mathlib.Core.List.{List}
-use Prim.Native.Nat.{ℕ}
+use mathlib.Core.List.{List, _++_}
+use Prim.Native.Nat.{ℕ, _+_, _<_}
+use lib.ListN.{length, take}
 use Rattle.kinds.specs.Kinds.{meetAt}
 use Rattle.meaning.specs.Picture.{Picture, Placing, Fact, All}
 
@@ -29,6 +30,21 @@ module _ (R : Rig) {J : Type 0} where
   -- no picture and placing satisfy the facts
   abbrev pub NoPicture : List (Fact J) → Type 0
   NoPicture fs = (P : Picture (R .kinds)) (σ : J → ℕ) → Counts (R .profile) P → Placing P σ → All (meetOf R) P σ fs → ⊥
+
+  -- a picture and a placing that satisfy the facts
+  pub record SomePicture (fs : List (Fact J)) : Type 0 where
+    pub picture : Picture (R .kinds)
+    pub placing : J → ℕ
+    pub counts : Counts (R .profile) picture
+    pub placed : Placing picture placing
+    pub holds : All (meetOf R) picture placing fs
+
+  -- The i-th of the facts fs (from 0) is the first such that the facts ts and those of fs up to and including it have no picture: ts and those
+  -- before it have one.
+  pub record FirstClash (ts fs : List (Fact J)) (i : ℕ) : Type 0 where
+    pub among : i < length fs
+    pub before : SomePicture (ts ++ take i fs)
+    pub none : NoPicture (ts ++ take (i + 1) fs)
 
   -- exactly the same pictures and placings satisfy both
   abbrev pub SameMeaning : List (Fact J) → List (Fact J) → Type 0

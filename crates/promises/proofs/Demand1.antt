@@ -35,7 +35,7 @@ pub take-answers : {b p after : List ℕ} {r : Reply} → Take b p r after → g
 unfolding listed
 take-answers {b} {p} (take-refused e q _) =
     ap (gives takeNumbers) q ∙ listed-more earlyNumbers (11 ∷ []) (number (takeRefusal b p)) (take-refusal-gives b p)
-take-answers (clashes d f q _) = ap (gives takeNumbers) q
+take-answers (clashes d i f q _) = ap (gives takeNumbers) q
 take-answers (done d a q) = ap (gives takeNumbers) q
 
 reach-answers : {r : Rule} {x : Reply} → ReachReply r x → gives askNumbers x ≡ true
@@ -67,7 +67,7 @@ refused-open n v table b e = sym (stays n v table b e)
 
 pub refused-take : {b p after : List ℕ} {r : Reply} → Take b p r after → refuses r ≡ true → after ≡ b
 refused-take (take-refused e q same) _ = same
-refused-take (clashes d f q same) _ = same
+refused-take (clashes d i f q same) _ = same
 refused-take (done d a q) e = absurd (true≢false (sym e ∙ ap refuses q))
 
 pub refused-write : (b out : List ℕ) → refuses (writeReply b out) ≡ true → writtenOutput b out ≡ out

@@ -1,16 +1,16 @@
 -- Demand 3, sentence by sentence, over calls of any number. Later blocks of a session have taken what earlier ones have, and more; a block
 -- is fixed by what it means.
 -- Assumes nothing.
-use mathlib.Core.Path.{_≡_, sym, _∙_, ap, subst}
+use mathlib.Core.Path.{_≡_, refl, sym, _∙_, ap, subst}
 use mathlib.Core.Logic.{_≢_}
 use mathlib.Core.Bool.{false, true≢false}
 use mathlib.Core.List.{List, _++_, List·Memᴰ}
-use Prim.Native.Nat.{ℕ}
+use Prim.Native.Nat.{ℕ, _≤_}
 use native.Mathlib.Omega.{arith}
 use Rattle.replies.specs.declared.Reply.{Reply}
 use Rattle.replies.specs.declared.Cause.the-variants.{Clash}
 use Rattle.replies.specs.declared.Reply.the-variants.{Done, Refused}
-use Rattle.replies.specs.Replies.{number, refuses}
+use Rattle.replies.specs.Replies.{number, place, refuses}
 use Rattle.meaning.specs.declared.RigJoint.{RigJoint}
 use Rattle.meaning.specs.declared.Verdict.{Verdict}
 use Rattle.meaning.specs.declared.Verdict.the-variants as verdict
@@ -19,6 +19,8 @@ use Rattle.meaning.specs.Rig.{meetOf, Counts, NoPicture, SameMeaning}
 use Rattle.meaning.specs.Rule.{verdictNumber}
 use Rattle.meaning.proofs.Later.{members-follow}
 use Rattle.meaning.proofs.Facts.{all-append}
+use Rattle.meaning.proofs.Clash.{clash-no-picture}
+use Rattle.packets.specs.Packet.{factAt}
 use Rattle.packets.specs.Facts.{rigFacts}
 use Rattle.screening.specs.Screening.{packetReply, factsWanted}
 use Rattle.joints.specs.Layout.{taken}
@@ -27,12 +29,13 @@ use Rattle.blocks.proofs.Bytes.{at-rig, one-block}
 use Rattle.opening.specs.Open.{openBlock}
 use Rattle.taking.specs.Take.{Take, takeRefusal}
 use Rattle.taking.specs.Take.Take.{refused as take-refused, clashes, done}
+use Rattle.taking.proofs.OneTake.{take-one}
 use Rattle.asking.specs.Ask.{Ask}
 use Rattle.asking.proofs.OneAsk.{ask-one}
 use Rattle.promises.specs.HostReplies.{Reads}
 use Rattle.promises.specs.Sessions.{Sent, Calls, Session, openedRig, factsTaken, SameFacts}
 use Rattle.promises.proofs.Readings.{reads-exactly, number-clash}
-use Rattle.promises.proofs.Later.{verdict-stays, still-clashes}
+use Rattle.promises.proofs.Later.{verdict-stays, clashed, still-clashes, place-not-later}
 use Rattle.promises.proofs.Sessions.{session-good, session-rig, session-means, same-kinds}
 use Rattle.promises.proofs.Sessions.{sent-goes-on, facts-hold, Moment, moment}
 
@@ -59,12 +62,16 @@ module _ {b c p : List ℕ} {sent : List Sent} {first r : Reply} where
   ruled-out-stays = stays verdict.RuledOut (λ e. omega (arith, ap verdictNumber e))
 
 -- "and a packet refused for a clash is refused for a clash at every later sending", which changes nothing
-pub clash-stays :
-    {b c p after again : List ℕ} {sent : List Sent} {first r : Reply} → Take b p first after → number first ≡ 11 → Calls b sent c →
-    Take c p r again → Reads r 11 0 0 × (again ≡ c)
-clash-stays {b} {p = p} {after} {first = first} {r} take e calls later =
-    let still = still-clashes (subst (λ (x : Reply). Take b p x after) (number-clash first e) take) calls later in
-    (reads-exactly r (Refused Clash 0) .0 (still .0), still .1)
+module _ {b c p after again : List ℕ} {sent : List Sent} {first r : Reply} where
+  pub clash-stays : Take b p first after → number first ≡ 11 → Calls b sent c → Take c p r again → Reads r 11 (place r) 0 × (again ≡ c)
+  clash-stays take e calls later =
+      let still = still-clashes (clashed take e) calls later in
+      let told = reads-exactly r (Refused Clash (factAt p (still .at))) .0 (still .told) in
+      (record { number-is = told .number-is; place-is = refl; third-is = told .third-is }, still .kept)
+
+  -- order 1: and its place is never that of a later fact
+  pub clash-never-later : Take b p first after → number first ≡ 11 → Calls b sent c → Take c p r again → place r ≤ place first
+  clash-never-later take e calls later = let d = clashed take e in place-not-later d calls (still-clashes d calls later)
 
 module _
     {n n' v : ℕ} {table b b' : List ℕ} {sent sent' : List Sent} (s : Session n v table sent b) (s' : Session n' v table sent' b')
@@ -95,6 +102,15 @@ module _
   -- "and give every rule the same answer"
   pub same-answers : {p : List ℕ} {r r' : Reply} → Ask b p r → Ask b' p r' → r ≡ r'
   same-answers {p} {r} {r'} a a' = ask-one a (subst (λ (x : List ℕ). Ask x p r') (sym same-bytes) a')
+
+  -- and every packet the same reply, with the same bytes after it
+  pub same-replies : {p after after' : List ℕ} {r r' : Reply} → Take b p r after → Take b' p r' after' → (r ≡ r') × (after ≡ after')
+  same-replies {p} {after' = after'} {r' = r'} t t' = take-one t (subst (λ (x : List ℕ). Take x p r' after') (sym same-bytes) t')
+
+  -- order 1: so a clashing packet the same place
+  pub same-clash-place :
+      {p after after' : List ℕ} {r r' : Reply} → Take b p r after → Take b' p r' after' → number r ≡ 11 → (number r' ≡ 11) × (place r' ≡ place r)
+  same-clash-place t t' e = let same = same-replies t t' .0 in (ap number (sym same) ∙ e, ap place (sym same))
 
 -- all packets sent are well formed, and one picture and placing satisfy all their facts
 module _
@@ -127,7 +143,7 @@ module _
 
       by-taking : Take (m .block) (t .packet) (t .reply) (m .next) → refuses (t .reply) ≡ false
       by-taking (take-refused e q _) = absurd (true≢false (sym e ∙ ap refuses goes-on))
-      by-taking (clashes d f q _) = absurd (no-picture-there f)
+      by-taking (clashes d i f q _) = absurd (no-picture-there (clash-no-picture (rigOf (m .block)) (taken (m .block)) (rigFacts (t .packet)) f))
       by-taking (done d a q) = ap refuses q
 
   -- "If all packets sent are well formed and one rig satisfies all their facts, no order of sending has one refused for a clash."

@@ -5,6 +5,7 @@ use mathlib.Core.Path.{_≡_, refl, sym, ap, _∙_}
 use mathlib.Core.List.{List, [], _∷_, _++_}
 use Prim.Native.Nat.{ℕ, _<_}
 use lib.Dec.{lit<}
+use lib.ListN.{take}
 use Rattle.replies.specs.declared.Reply.{Reply}
 use Rattle.replies.specs.declared.Cause.the-variants.{Clash}
 use Rattle.replies.specs.declared.Reply.the-variants.{Done, Refused}
@@ -15,9 +16,10 @@ use Rattle.house.specs.Meets.{houseTable}
 use Rattle.house.proofs.Rule.{house-lawful}
 use Rattle.meaning.specs.declared.RigJoint.{RigJoint}
 use Rattle.meaning.specs.Picture.{Picture, Fact, All}
-use Rattle.meaning.specs.Rig.{Rig, NoPicture, SameMeaning}
+use Rattle.meaning.specs.Rig.{Rig, NoPicture, FirstClash, SameMeaning}
 use Rattle.meaning.specs.Picture.Fact.{has-kind, leads}
 use Rattle.meaning.specs.Form.{rigJoint}
+use Rattle.packets.specs.Packet.{factAt}
 use Rattle.packets.specs.Facts.{rigFacts, factOf}
 use Rattle.screening.specs.Screening.{packetReply, factsWanted, factFits, firstUnfit}
 use Rattle.runs.specs.Runs.{each}
@@ -28,9 +30,10 @@ use Rattle.blocks.proofs.Bytes.{at-rig}
 use Rattle.taking.specs.Take.{takeRefusal, Take}
 use Rattle.taking.specs.Take.Take.{clashes, done}
 use Rattle.taking.proofs.Taking.{packet-decides}
-use Rattle.taking.proofs.OneTake.{take-one}
+use Rattle.taking.proofs.OneTake.{take-one, after-picture}
 use Rattle.promises.specs.Examples.{opened, factsF, fact12, Takes}
 use Rattle.promises.proofs.Readings.{reads-exactly}
+use Rattle.promises.proofs.Sessions.{after-none}
 use Rattle.promises.proofs.ExampleBlock.{houseRig, opened-rig, opened-good, opened-taken, opened-count, afterF, after-rig, after-good, factsAfter, after-taken, after-count}
 
 abbrev pub houseMeet : ℕ → ℕ → ℕ
@@ -141,10 +144,21 @@ clash-12 P σ _ placed a =
     (under-none house-lawful (P .kind e) (lit< tt) (P .in-range e)
     (under-both P e 23 3 0 (lit< tt) (lit< tt) refl forearm right))
 
--- P12: then "2 has kind 3" clashes, and the block is unchanged
-pub takes-12 : Takes afterF fact12 11 0 0 afterF
+-- it is the first fact of its packet, and before it the taken facts have a picture: that of their block
+first-12 : FirstClash (rigOf afterF) (taken afterF) (rigFacts fact12) 0
+first-12 =
+    record {
+      among = rw fact12-says (lit< tt);
+      before = after-picture (after-none after-good);
+      none = of-after (λ R fs. NoPicture R (fs ++ take 1 (rigFacts fact12))) (rw fact12-says clash-12);
+    }
+
+fact12-at : factAt fact12 0 ≡ 6
+unfolding fact12
+fact12-at = refl
+
+-- P12: then "2 has kind 3" clashes at byte 6, and the block is unchanged
+pub takes-12 : Takes afterF fact12 11 6 0 afterF
 takes-12 =
-    takes (Refused Clash 0)
-    (clashes (not-refused fact12 after-good after-rig fact12-fits)
-    (of-after (λ R fs. NoPicture R (fs ++ rigFacts fact12)) (rw fact12-says clash-12))
-    refl refl)
+    takes (Refused Clash 6)
+    (clashes (not-refused fact12 after-good after-rig fact12-fits) 0 first-12 (ap (Refused Clash) (sym fact12-at)) refl)

@@ -1,21 +1,25 @@
--- From a block to a later one: a verdict but "waits" and a clash stay, since every picture and placing that satisfy what is taken later
--- satisfy what was taken before.
+-- From a block to a later one: a verdict but "waits" and a clash stay, and the clash comes at no later fact, since every picture and placing that
+-- satisfy what is taken later satisfy what was taken before.
 -- Assumes nothing.
 use mathlib.Core.Path.{_≡_, refl, sym, _∙_, ap, subst}
 use mathlib.Core.Logic.{_≢_}
 use mathlib.Core.Bool.{false, cond, true≢false}
 use mathlib.Core.List.{List, _++_}
-use Prim.Native.Nat.{ℕ}
+use Prim.Native.Nat.{ℕ, _≤_}
+use native.Mathlib.Omega.{arith}
 use lib.Dec.{eqb}
 use Rattle.replies.specs.declared.Cause.the-variants.{Clash}
 use Rattle.replies.specs.declared.Reply.{Reply}
 use Rattle.replies.specs.declared.Reply.the-variants.{Done, Refused}
-use Rattle.replies.specs.Replies.{number, third, refuses}
+use Rattle.replies.specs.Replies.{number, place, third, refuses}
+use Rattle.replies.proofs.Laws.{not-both}
 use Rattle.meaning.specs.declared.Verdict.{Verdict}
 use Rattle.meaning.specs.declared.Verdict.the-variants as verdict
-use Rattle.meaning.specs.Rig.{Rig, NoPicture}
+use Rattle.meaning.specs.Rig.{Rig, NoPicture, FirstClash}
 use Rattle.meaning.specs.Rule.{Applies, RuledOut, Judged, verdictNumber}
 use Rattle.meaning.proofs.Later.{Follows, meaning-follows, follows-append, no-picture-later, applies-later, ruled-out-later}
+use Rattle.meaning.proofs.Clash.{clash-not-later, clash-no-picture}
+use Rattle.packets.specs.Packet.{factAt}
 use Rattle.packets.specs.Facts.{rigFacts, ruleOf}
 use Rattle.screening.specs.Screening.{packetReply, factsWanted, ruleWanted}
 use Rattle.reach.specs.Reached.{ReachReply}
@@ -27,7 +31,7 @@ use Rattle.blocks.proofs.Bytes.{at-rig}
 use Rattle.taking.specs.Take.{After, Take, takeRefusal}
 use Rattle.taking.specs.Take.Take.{refused as take-refused, clashes, done}
 use Rattle.taking.proofs.Taking.{taken-good, packet-decides as take-decides}
-use Rattle.taking.proofs.OneTake.{take-one, after-good}
+use Rattle.taking.proofs.OneTake.{after-good, after-no-clash}
 use Rattle.asking.specs.Ask.{Ask, askRefusal}
 use Rattle.asking.specs.Ask.Ask.{refused as ask-refused, unreached, judged}
 use Rattle.asking.proofs.Asking.{asked, packet-decides as ask-decides}
@@ -106,28 +110,44 @@ verdict-stays {b} {p = p} x d before cs after =
     let g = asked b p (a .goes-on) .good in
     ask-one after (judged (asks-on cs g p (a .goes-on)) (a .reached) x (judged-later p x d cs g (a .judged)) refl)
 
--- what a taking that clashes tells
-pub record Clashed (b p : List ℕ) : Type 0 where
+-- a taking that clashes, and at which fact
+pub record Clashed (b p : List ℕ) (r : Reply) (after : List ℕ) : Type 0 where
   pub goes-on : takeRefusal b p ≡ Done 0
-  pub no-picture : NoPicture (rigOf b) (taken b ++ rigFacts p)
+  pub at : ℕ
+  pub first : FirstClash (rigOf b) (taken b) (rigFacts p) at
+  pub told : r ≡ Refused Clash (factAt p at)
+  pub kept : after ≡ b
 
-pub clashed : {b p after : List ℕ} {place : ℕ} → Take b p (Refused Clash place) after → Clashed b p
-clashed {b} {p} (take-refused e q _) = absurd (refusal-no-clash b p (ap number (sym q)))
-clashed (clashes d f _ _) = record { goes-on = d; no-picture = f }
-clashed (done d a q) = absurd (true≢false (ap refuses q))
+module _ {b p : List ℕ} {r : Reply} {after : List ℕ} where
+  -- it is told by its number
+  pub clashed : Take b p r after → number r ≡ 11 → Clashed b p r after
+  clashed (take-refused e q _) eleven = absurd (refusal-no-clash b p (ap number (sym q) ∙ eleven))
+  clashed (clashes d i f q same) _ = record { goes-on = d; at = i; first = f; told = q; kept = same }
+  clashed (done d a q) eleven = absurd (omega (arith, ap number q, eleven))
 
-clashed-later : {b c : List ℕ} {sent : List Sent} (p : List ℕ) → Calls b sent c → Clashed b p → Clashed c p
-clashed-later {b} {c} p cs d =
-    let g = taken-good b p (d .goes-on) .0 in
-    let more = follows-append (rigOf b) (taken c) (taken b) (rigFacts p) (follows cs g) in
-    let clash = no-picture-later (rigOf b) (taken c ++ rigFacts p) (taken b ++ rigFacts p) more (d .no-picture) in
-    record {
-      goes-on = takes-on cs g p (d .goes-on);
-      no-picture = at-later cs g (λ R. NoPicture R (taken c ++ rigFacts p)) clash;
-    }
+  -- and a packet that no reply from 1 to 9 refuses clashes where it has no picture with the taken facts
+  pub must-clash : takeRefusal b p ≡ Done 0 → NoPicture (rigOf b) (taken b ++ rigFacts p) → Take b p r after → Clashed b p r after
+  must-clash well f (take-refused e q _) = absurd (not-both e well)
+  must-clash well f (clashes d i first q same) = record { goes-on = d; at = i; first = first; told = q; kept = same }
+  must-clash well f (done d a q) = absurd (after-no-clash a f)
 
-pub still-clashes :
-    {b c p after again : List ℕ} {sent : List Sent} {place : ℕ} {r : Reply} → Take b p (Refused Clash place) after → Calls b sent c →
-    Take c p r again → (r ≡ Refused Clash 0) × (again ≡ c)
-still-clashes {p = p} before cs later =
-    let d = clashed-later p cs (clashed before) in take-one later (clashes (d .goes-on) (d .no-picture) refl refl)
+  pub clashed-no-picture : Clashed b p r after → NoPicture (rigOf b) (taken b ++ rigFacts p)
+  clashed-no-picture d = clash-no-picture (rigOf b) (taken b) (rigFacts p) (d .first)
+
+-- a later taking of the same packet
+module _ {b c p : List ℕ} {sent : List Sent} {first : Reply} {after : List ℕ} (d : Clashed b p first after) (cs : Calls b sent c) where
+  good : GoodBlock b
+  good = taken-good b p (d .goes-on) .0
+
+  pub still-clashes : {r : Reply} {again : List ℕ} → Take c p r again → Clashed c p r again
+  still-clashes t =
+      let more = follows-append (rigOf b) (taken c) (taken b) (rigFacts p) (follows cs good) in
+      let clash = no-picture-later (rigOf b) (taken c ++ rigFacts p) (taken b ++ rigFacts p) more (clashed-no-picture d) in
+      must-clash (takes-on cs good p (d .goes-on)) (at-later cs good (λ R. NoPicture R (taken c ++ rigFacts p)) clash) t
+
+  -- at no later place
+  pub place-not-later : {r : Reply} {again : List ℕ} → Clashed c p r again → place r ≤ place first
+  place-not-later e =
+      let then = at-rig (λ R. FirstClash R (taken c) (rigFacts p) (e .at)) (later cs good .stands .rig) (e .first) in
+      let fewer = clash-not-later (rigOf b) (taken c) (taken b) (rigFacts p) (follows cs good) (d .first) then in
+      omega (arith, fewer, ap place (e .told), ap place (d .told))

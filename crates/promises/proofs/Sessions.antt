@@ -79,7 +79,7 @@ first-taken :
     (GoodBlock next → After next (factsTaken sent) c) → After b (factsTaken (s ∷ sent)) c
 first-taken s sent g (refused e q same) rest =
     rw (facts-refused s sent (ap refuses q ∙ e), ← same) (rest (rw same g))
-first-taken s sent g (clashes d f q same) rest =
+first-taken s sent g (clashes d i f q same) rest =
     rw (facts-refused s sent (ap refuses q), ← same) (rest (rw same g))
 first-taken s sent g (done d a q) rest =
     rw (facts-done s sent (ap refuses q)) (after-then (rigFacts (s .packet)) (factsTaken sent) a (rest (after-good a)))

@@ -16,6 +16,7 @@ use Rattle.meaning.specs.Picture.{Picture, Placing, Fact, All}
 use Rattle.meaning.specs.Rig.{Rig, meetOf, Counts, SameMeaning}
 use Rattle.meaning.specs.Rule.{Rule, Judged, verdictNumber}
 use Rattle.meaning.proofs.Later.{Follows}
+use Rattle.meaning.proofs.Clash.{clash-no-picture}
 use Rattle.meaning.proofs.Facts.{all-right}
 use Rattle.packets.specs.Facts.{rigFacts, ruleOf}
 use Rattle.reach.specs.Reached.{ReachReply}
@@ -37,7 +38,8 @@ pub not-refused :
     (P : Picture (rigOf b .kinds)) (σ : RigJoint → ℕ) → Counts (rigOf b .profile) P → Placing P σ → All (meetOf (rigOf b)) P σ (taken b ++ rigFacts p) → Take b p r after →
     refuses r ≡ false
 not-refused well P σ counts placed holds (take-refused e q _) = absurd (true≢false (sym e ∙ ap refuses well))
-not-refused well P σ counts placed holds (clashes d f q _) = absurd (f P σ counts placed holds)
+not-refused {b} {p} well P σ counts placed holds (clashes d i f q _) =
+    absurd (clash-no-picture (rigOf b) (taken b) (rigFacts p) f P σ counts placed holds)
 not-refused well P σ counts placed holds (done d a q) = ap refuses q
 
 -- what a taking that is done leaves
@@ -47,7 +49,7 @@ pub record TakenSo (b p : List ℕ) (r : Reply) (after : List ℕ) : Type 0 wher
 
 pub took : {b p after : List ℕ} {r : Reply} → refuses r ≡ false → Take b p r after → TakenSo b p r after
 took e (take-refused d q _) = absurd (true≢false (sym d ∙ ap refuses (sym q) ∙ e))
-took e (clashes d f q _) = absurd (true≢false (ap refuses (sym q) ∙ e))
+took e (clashes d i f q _) = absurd (true≢false (ap refuses (sym q) ∙ e))
 took e (done d a q) = record { after-taking = a; told = q }
 
 -- "storing nothing": facts that do not follow from those taken change the block

@@ -152,5 +152,5 @@ pub record Examples : Type 0 where
   pub p9 : Asks after rule9 Waits
   pub p10 : Asks after rule10 Applies
   pub p11 : Asks after rule11 Waits
-  -- F, then "2 has kind 3": 11, block unchanged
-  pub p12 : Takes after fact12 11 0 0 after
+  -- F, then "2 has kind 3": 11 at that fact, block unchanged
+  pub p12 : Takes after fact12 11 6 0 after

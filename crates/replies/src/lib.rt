@@ -26,7 +26,7 @@ pub enum Cause {
     BadPart,
     // 10: a rule joint that is not reached; its place is the smallest.
     NotReached,
-    // 11: no picture satisfies the taken facts and the packet's together.
+    // 11: no picture satisfies the taken facts and the packet's together, at the first byte of the first fact up to which none does.
     Clash,
     // 12: the output is shorter than what is to be written.
     ShortOutput,

@@ -1,24 +1,26 @@
 -- The solver's answer to a packet, as the answer of taking: a clash where no picture is left, otherwise the block with the next form in
 -- it, whose classes are no more than before.
 -- Assumes nothing.
-use mathlib.Core.Path.{_≡_, sym, _∙_, ap, ap₂}
-use mathlib.Core.Bool.{true, false, true≢false, false≢true}
-use mathlib.Core.List.{List, _++_, map}
-use Prim.Native.Nat.{ℕ, _-_, _≤_}
+use mathlib.Core.Path.{_≡_, refl, sym, _∙_, ap, ap₂}
+use mathlib.Core.Bool.{Bool, true, false, true≢false, false≢true}
+use mathlib.Core.List.{List, [], _∷_, _++_, map}
+use Prim.Native.Nat.{ℕ, zero, suc, _+_, _-_, _≤_}
 use native.Mathlib.Omega.{arith}
-use lib.ListN.{length}
+use lib.ListN.{length, take, length-map}
+use Rattle.runs.proofs.Each.{each-length}
 use Rattle.meaning.specs.declared.RigJoint.{RigJoint}
 use Rattle.meaning.specs.Picture.{Fact, rename}
-use Rattle.meaning.specs.Form.{Form, listForm, takenFacts, classes}
-use Rattle.meaning.specs.Rig.{Rig, meetOf, NoPicture}
+use Rattle.meaning.specs.Form.{Form, listForm, rigJoint, takenFacts, classes}
+use Rattle.meaning.specs.Rig.{Rig, meetOf, NoPicture, SomePicture, FirstClash}
 use Rattle.meaning.specs.Solving.{rigNumber, Taken, Refuted}
 use Rattle.meaning.specs.Asking.{Extends}
 use Rattle.meaning.proofs.SameForm.{SameForm, form-well, form-models, form-facts, form-classes, unpacked-same}
 use Rattle.meaning.proofs.Classes.{fewer-classes}
-use Rattle.meaning.proofs.Takes.{taken-means, refuted-clash}
-use Rattle.packets.specs.Facts.{rigFacts}
+use Rattle.meaning.proofs.Takes.{taken-means, taken-picture, refuted-clash}
+use Rattle.packets.specs.Packet.{factAt, factCount}
+use Rattle.packets.specs.Facts.{factOf, rigFacts}
 use Rattle.solver.specs.declared.Solved.{Solved}
-use Rattle.solver.specs.Unpacked.{formOf, rowsSize, Ready}
+use Rattle.solver.specs.Unpacked.{formOf, rowsSize, Ready, Folded}
 use Rattle.joints.specs.Layout.{kindsOf, jointsOf, blockForm, taken, classCount}
 use Rattle.joints.specs.Storing.{withForm}
 use Rattle.blocks.specs.Layout.{tableOf, rigOf}
@@ -26,6 +28,18 @@ use Rattle.blocks.proofs.Shape.{GoodBlock, put-together, block-rig, block-sized
 use Rattle.blocks.proofs.Bytes.{with-rig, stored-form, stored-good}
 use Rattle.taking.specs.Take.{After}
 use Rattle.taking.specs.Solve.{Solves}
+
+-- the first k of a list under a map
+take-map : {A B : Type 0} (f : A → B) (k : ℕ) (l : List A) → take k (map f l) ≡ map f (take k l)
+take-map f zero l = refl
+take-map f (suc k) [] = refl
+take-map {B = B} f (suc k) (x ∷ l) = ap (λ (m : List B). f x ∷ m) (take-map f k l)
+
+-- a fold stops at one of the facts or behind the last
+stopped-within :
+    {n v at : ℕ} {meet : ℕ → ℕ → ℕ} {S T : Form} (fs : List (Fact ℕ)) (ok : Bool) → Folded n meet v S fs at ok T → at ≤ length fs
+stopped-within fs true f = omega (arith, f .all refl .0)
+stopped-within fs false f = omega (arith, f .stopped refl .0)
 
 module _ {b : List ℕ} (g : GoodBlock b) {E : Form} (x : Extends (jointsOf b) 0 (blockForm b) E) where
   same : SameForm (blockForm b) E
@@ -62,6 +76,9 @@ module _ {b : List ℕ} (g : GoodBlock b) {E : Form} (x : Extends (jointsOf b) 0
       pub taken-fewer : classes T (jointsOf b) ≤ classCount b
       taken-fewer = let rig = block-rig (g .well) in fewer-classes (rig .lawful) (rig .some) (g .well .well) from-block
 
+      taken-answer : SomePicture (rigOf b) (taken b ++ facts)
+      taken-answer = taken-picture (block-rig (g .well)) (blockForm b) facts from-block
+
     module _ (c k r : List ℕ) (lc : length c ≡ 96) (lk : length k ≡ 96) (lr : length r ≡ rowsSize)
         (t : Taken (kindsOf b) (meetOf (rigOf b)) (jointsOf b) E (map (rename rigNumber) facts) (listForm c k r)) where
       rig-stays : rigOf (withForm b c k r) ≡ rigOf b
@@ -86,22 +103,50 @@ module _ {b : List ℕ} (g : GoodBlock b) {E : Form} (x : Extends (jointsOf b) 0
       taken-classes =
           sym (form-classes form-stored (jointsOf b)) ∙ ap (λ (R : Rig). classes (blockForm (withForm b c k r)) (R .joints)) (sym rig-stays)
 
+  -- where the fold stops at a clash is the first fact that clashes
+  stopped-first :
+      (facts : List (Fact RigJoint)) {at : ℕ} {T : Form} →
+      Folded (kindsOf b) (meetOf (rigOf b)) (jointsOf b) E (map (rename rigNumber) facts) at false T → FirstClash (rigOf b) (taken b) facts at
+  stopped-first facts {at} f =
+      let stop = f .stopped refl in
+      record {
+        among = omega (arith, stop .0, length-map facts (rename rigNumber));
+        before = taken-answer (take at facts) (rw (take-map (rename rigNumber) at facts) at (f .before .1));
+        none = refuted-answer (take (at + 1) facts) (rw (take-map (rename rigNumber) (at + 1) facts) at (stop .1));
+      }
+
+-- the fold over the packet's facts, from a form of the block's
+abbrev pub PacketFold : List ℕ → List ℕ → Form → ℕ → Bool → Form → Type 0
+PacketFold b p S at ok T = Folded (kindsOf b) (meetOf (rigOf b)) (jointsOf b) S (map (rename rigNumber) (rigFacts p)) at ok T
+
+fold-within : (b p : List ℕ) {S T : Form} {at : ℕ} (ok : Bool) → PacketFold b p S at ok T → at ≤ factCount p
+fold-within b p ok f =
+    omega
+    (arith, stopped-within (map (rename rigNumber) (rigFacts p)) ok f, length-map (rigFacts p) (rename rigNumber), each-length (λ i. factOf rigJoint p (factAt p i)) 0 (factCount p))
+
 -- the solver's answer with its count of classes, as the outcome of the packet p
 module _ {b p : List ℕ} (g : GoodBlock b) (start form : Solved) (was rows : List ℕ) (x : Extends (jointsOf b) 0 (blockForm b) (formOf start was)) where
   pub clash-outcome :
-      (joins : ℕ) → Refuted (kindsOf b) (meetOf (rigOf b)) (jointsOf b) (formOf start was) (map (rename rigNumber) (rigFacts p))
-      → Solves b p true joins form rows
-  clash-outcome joins r =
-      record { no-picture = λ _. refuted-answer g x (rigFacts p) r; after = λ e. absurd (true≢false e); count = λ e. absurd (true≢false e) }
+      {at : ℕ} {ok : Bool} (joins : ℕ) → PacketFold b p (formOf start was) at ok (formOf form rows) → ok ≡ false → Solves b p true at joins form rows
+  clash-outcome {at} joins f e =
+      let stopped : PacketFold b p (formOf start was) at false (formOf form rows) = rw e at f in
+      record {
+        few = fold-within b p false stopped;
+        first = λ _. stopped-first g x (rigFacts p) stopped;
+        after = λ e. absurd (true≢false e);
+        count = λ e. absurd (true≢false e);
+      }
 
   pub done-outcome :
       length (form .class) ≡ 96 → length (form .kind) ≡ 96 → length rows ≡ rowsSize
-      → Taken (kindsOf b) (meetOf (rigOf b)) (jointsOf b) (formOf start was) (map (rename rigNumber) (rigFacts p)) (formOf form rows)
+      → {at : ℕ} {ok : Bool} → PacketFold b p (formOf start was) at ok (formOf form rows) → ok ≡ true
       → (before after : ℕ) → before ≡ classCount b → after ≡ classes (formOf form rows) (jointsOf b)
-      → Solves b p false (before - after) form rows
-  done-outcome lc lk lr t before after eb ea =
+      → Solves b p false at (before - after) form rows
+  done-outcome lc lk lr {at} {ok} f e before after eb ea =
+      let t = f .all e .1 in
       record {
-        no-picture = λ e. absurd (false≢true e);
+        few = fold-within b p ok f;
+        first = λ e. absurd (false≢true e);
         after = λ _. taken-after g x (rigFacts p) (form .class) (form .kind) rows lc lk lr t;
         count = λ _. ap₂ _-_ eb (ea ∙ taken-classes g x (rigFacts p) (form .class) (form .kind) rows lc lk lr t);
       }

@@ -3,7 +3,7 @@
 use mathlib.Core.Path.{_≡_, refl, sym, _∙_, ap, subst}
 use mathlib.Core.Bool.{Bool, true, false, cond}
 use mathlib.Core.List.{List, [], map}
-use Prim.Native.Nat.{ℕ, _<_}
+use Prim.Native.Nat.{ℕ, _+_, _*_, _<_}
 use native.Mathlib.Omega.{arith}
 use Rattle.replies.specs.declared.Cause.the-variants.{Clash}
 use Rattle.replies.specs.declared.Reply.{Reply}
@@ -57,6 +57,10 @@ pub of-packet :
     Folded n meet v S (each (nodeFactAt p) 0 count) at ok U → Folded n meet v S (map (rename rigNumber) (rigFacts p)) at ok U
 of-packet p count e f = rw (node-facts p) (rw e at f)
 
+-- a packet for taking has no ties
+pub fact-place : {n v : ℕ} {p : List ℕ} → WellFormed (factsWanted v) n v p → (i : ℕ) → factAt p i ≡ 6 + 4 * i
+fact-place w i = omega (arith, w .ties-to)
+
 -- a packet that is not refused
 module _ (b p : List ℕ) where
   abbrev packet : Reply
@@ -83,9 +87,9 @@ module _ (b p : List ℕ) where
 
 -- what the solver makes of a packet is stored and told: a clash with nothing stored, or the joins with the form
 pub take-ends :
-    (clash : Bool) {b p after : List ℕ} {joins : ℕ} {form : Solved} {rows : List ℕ} {r : Reply}
-    → takeRefusal b p ≡ Done 0 → Solves b p clash joins form rows → after ≡ cond clash b (withSolved b form rows) → r ≡ cond clash (Refused Clash 0) (Done joins)
-    → Take b p r after
-take-ends true d s q e = clashes d (s .no-picture refl) e q
-take-ends false {b} {p} {after} {joins} {form} {rows} {r} d s q e =
+    (clash : Bool) {b p after : List ℕ} {at joins : ℕ} {form : Solved} {rows : List ℕ} {r : Reply}
+    → takeRefusal b p ≡ Done 0 → Solves b p clash at joins form rows → after ≡ cond clash b (withSolved b form rows)
+    → r ≡ cond clash (Refused Clash (6 + 4 * at)) (Done joins) → Take b p r after
+take-ends true {b} {p} {at = at} d s q e = clashes d at (s .first refl) (e ∙ ap (Refused Clash) (sym (fact-place (packet-well (taken-good b p d .1)) at))) q
+take-ends false {b} {p} {after} {at} {joins} {form} {rows} {r} d s q e =
     subst (λ (a : List ℕ). Take b p r a) (sym q) (done d (s .after refl) (e ∙ ap Done (s .count refl)))

@@ -10,7 +10,8 @@ use Rattle.replies.specs.declared.Reply.the-variants.{Done, Refused}
 use Rattle.replies.specs.Replies.{refuses, firstRefusal}
 use Rattle.meaning.specs.declared.RigJoint.{RigJoint}
 use Rattle.meaning.specs.Picture.{Fact}
-use Rattle.meaning.specs.Rig.{NoPicture, SameMeaning}
+use Rattle.meaning.specs.Rig.{FirstClash, SameMeaning}
+use Rattle.packets.specs.Packet.{factAt}
 use Rattle.packets.specs.Facts.{rigFacts}
 use Rattle.screening.specs.Screening.{packetReply, factsWanted}
 use Rattle.joints.specs.Layout.{kindsOf, jointsOf, taken, classCount}
@@ -30,7 +31,8 @@ pub record After (b : List ℕ) (facts : List (Fact RigJoint)) (after : List ℕ
 -- the reply to taking the packet p, and the block afterwards
 pub data Take (b p : List ℕ) (reply : Reply) (after : List ℕ) : Type 0 where
   refused : refuses (takeRefusal b p) ≡ true → reply ≡ takeRefusal b p → after ≡ b → Take b p reply after
-  -- no picture and placing satisfy the taken facts and the packet's together
-  clashes : takeRefusal b p ≡ Done 0 → NoPicture (rigOf b) (taken b ++ rigFacts p) → reply ≡ Refused Clash 0 → after ≡ b → Take b p reply after
-  -- some picture satisfies them, the block's own; third is the joins: classes before less classes after
+  -- the place is the first byte of the first fact such that the taken facts and the packet's up to and including it have no picture
+  clashes : takeRefusal b p ≡ Done 0 → (i : ℕ) → FirstClash (rigOf b) (taken b) (rigFacts p) i → reply ≡ Refused Clash (factAt p i) → after ≡ b →
+      Take b p reply after
+  -- some picture satisfies the taken facts and the packet's, the block's own; third is the joins: classes before less classes after
   done : takeRefusal b p ≡ Done 0 → After b (rigFacts p) after → reply ≡ Done (classCount b - classCount after) → Take b p reply after

@@ -2,6 +2,7 @@
 ghost use mathlib.Core.Path.{_≡_};
 ghost use mathlib.Core.Bool.{true, cond};
 ghost use mathlib.Core.List.{map};
+ghost use Prim.Native.Nat.{_+_, _*_, _≤_};
 ghost use lib.ListN.{length, replicate};
 ghost use Rattle.kinds.specs.Kinds.{meetAt};
 ghost use Rattle.meaning.specs.Picture.{rename};
@@ -22,9 +23,11 @@ use solver::Fold;
 use solver::NodeFact;
 use solver::Solved;
 
-// What the solver makes of a packet: whether it clashes, and where it does not, the number of joins and the next form.
+// What the solver makes of a packet: whether it clashes, how many facts were taken before that, and where it does not clash, the number of joins
+// and the next form.
 pub struct Outcome {
     pub clash: bool,
+    pub at: usize,
     pub joins: u32,
     pub form: Solved,
 }
@@ -100,7 +103,7 @@ fn refusal(block: &[u8], packet: &[u8]) -> Reply
 // The packet's facts taken with those of the block. The rows of the next form are in `rows`, which are zeros before.
 fn solve(block: &[u8], packet: &[u8], rows: &mut [u8]) -> Outcome
     requires { ⌜ takeRefusal (now block) (now packet) ≡ Reply.Done 0 ⌝ ∗ ⌜ now rows ≡ replicate rowsSize 0 ⌝ }
-    ensures { λ r. ⌜ Solves (now (block .entry)) (now (packet .entry)) (r .clash) (r .joins) (r .form) (now (rows .exit)) ⌝ }
+    ensures { λ r. ⌜ Solves (now (block .entry)) (now (packet .entry)) (r .clash) (r .at) (r .joins) (r .form) (now (rows .exit)) ⌝ }
 {
     let n = joints::kind_count(block) as usize;
     let v = joints::joint_count(block) as usize;
@@ -111,6 +114,7 @@ fn solve(block: &[u8], packet: &[u8], rows: &mut [u8]) -> Outcome
     if !form.ok {
         return Outcome {
             clash: true,
+            at: end.at,
             joins: 0,
             form,
         };
@@ -118,6 +122,7 @@ fn solve(block: &[u8], packet: &[u8], rows: &mut [u8]) -> Outcome
     let joins = before - solver::classes_in(&form.class, v);
     Outcome {
         clash: false,
+        at: end.at,
         joins: joins as u32,
         form,
     }
@@ -136,12 +141,13 @@ fn store(block: &mut [u8], form: Solved, rows: &[u8], clash: bool)
     joints::store(block, &class, &kind, rows);
 }
 
-// The reply where none of 1 to 9 fits.
-fn told(clash: bool, joins: u32) -> Reply
-    ensures { λ r. ⌜ r ≡ cond clash (Reply.Refused Cause.Clash 0) (Reply.Done joins) ⌝ }
+// The reply where none of 1 to 9 fits. A packet for taking has no ties, so that its facts stand from byte 6 on.
+fn told(clash: bool, at: usize, joins: u32) -> Reply
+    requires { ⌜ at ≤ 1088 ⌝ }
+    ensures { λ r. ⌜ r ≡ cond clash (Reply.Refused Cause.Clash (6 + 4 * at)) (Reply.Done joins) ⌝ }
 {
     if clash {
-        return Reply::Refused(Cause::Clash, 0);
+        return Reply::Refused(Cause::Clash, (6 + 4 * at) as u32);
     }
     Reply::Done(joins)
 }
@@ -160,5 +166,5 @@ pub fn take(block: &mut [u8], packet: &[u8]) -> Reply
     let form = outcome.form;
     let clash = outcome.clash;
     store(block, form, &rows, clash);
-    told(clash, outcome.joins)
+    told(clash, outcome.at, outcome.joins)
 }

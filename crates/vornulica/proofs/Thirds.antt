@@ -24,7 +24,7 @@ small r e = rw e (omega arith)
 
 pub take-third : {b p : List ℕ} {r : Reply} {after : List ℕ} → Take b p r after → third r < 2 ^ 24
 take-third {b} {p} {r} (refused e q s) = small r (ap third q ∙ refusal-third (takeRefusal b p) e)
-take-third {r = r} (clashes d c q s) = small r (ap third q)
+take-third {r = r} (clashes d i c q s) = small r (ap third q)
 take-third {b} {p} {r} {after} (done d a q) =
     let e : third r ≡ classCount b - classCount after = ap third q in
     omega (arith, e, classes-le (blockForm b) (jointsOf b), taken-good b p d .0 .well .v-high)

@@ -1,6 +1,6 @@
 -- `taking::solve` meets its contract: the answer of the solver, on the block's own form and table.
 -- Assumes nothing.
-use mathlib.Core.Path.{_≡_, sym, _∙_, ap, subst}
+use mathlib.Core.Path.{_≡_, ap, subst}
 use mathlib.Core.Bool.{true}
 use mathlib.Core.List.{map}
 use Prim.Native.Nat.{ℕ, _≤_}
@@ -11,21 +11,18 @@ use Rattle.replies.specs.declared.Reply.the-variants.{Done}
 use Rattle.kinds.specs.Kinds.{meetAt}
 use Rattle.meaning.specs.Picture.{rename}
 use Rattle.meaning.specs.Form.{classes}
-use Rattle.meaning.specs.Rig.{meetOf}
 use Rattle.meaning.specs.Solving.{rigNumber}
 use Rattle.meaning.specs.Asking.{Extends}
 use Rattle.packets.specs.Facts.{rigFacts}
 use Rattle.screening.specs.Screening.{packetReply, factsWanted}
-use Rattle.solver.specs.Unpacked.{Ready, Took, Folded, formOf, rowsSize}
+use Rattle.solver.specs.Unpacked.{Ready, Folded, formOf, rowsSize}
 use Rattle.solver.proofs.Run.{classes-le}
-use Rattle.solver.proofs.Folding.{folded-took}
 use Rattle.unpacking.proofs.Unpacking.{part-size}
-use Rattle.joints.specs.Layout.{kindsOf, jointsOf, jointKindsOf, rowsOf, blockForm, classCount}
-use Rattle.blocks.specs.Layout.{rigOf}
+use Rattle.joints.specs.Layout.{jointsOf, jointKindsOf, rowsOf, blockForm, classCount}
 use Rattle.blocks.proofs.Shape.{GoodBlock}
 use Rattle.blocks.proofs.Read.{Read, read-back, as-read}
 use Rattle.taking.proofs.Taking.{taken-good}
-use Rattle.taking.proofs.Solution.{unpacked-ready, taken-fewer, clash-outcome, done-outcome}
+use Rattle.taking.proofs.Solution.{unpacked-ready, taken-fewer, PacketFold, clash-outcome, done-outcome}
 use borrow.Author.Needs.{needs}
 use Rattle.taking.proofs.solve.Statement.{statement}
 use Rattle.taking.proofs.solve.Tie as tie
@@ -57,15 +54,14 @@ unpacked c =
 -- the solver's answer, on the table that stands in the block
 solver-said :
     (c : tie.After-with-facts) → let b = c .before .before .before .before .before .before .before .before .before .before .before .before .before .before .args .block .now in
-    Took (kindsOf b) (meetOf (rigOf b)) (jointsOf b) (formOf (c .before .before .before .before .before .unpack .result) (c .before .before .before .before .before .unpack .last .0))
-    (map (rename rigNumber) (rigFacts (c .before .before .before .before .before .before .before .before .before .before .before .before .before .before .args .packet .now))) (c .with-facts .result .form .ok)
+    PacketFold b (c .before .before .before .before .before .before .before .before .before .before .before .before .before .before .args .packet .now) (formOf (c .before .before .before .before .before .unpack .result) (c .before .before .before .before .before .unpack .last .0)) (c .with-facts .result .at) (c .with-facts .result .form .ok)
     (formOf (c .with-facts .result .form) (c .with-facts .last .1 .0))
 solver-said c =
     let facts = map (rename rigNumber) (rigFacts (c .before .before .before .before .before .before .before .before .before .before .before .before .before .before .args .packet .now)) in
     let r = c .with-facts .result in
     let S = formOf (c .before .before .before .before .before .unpack .result) (c .before .before .before .before .before .unpack .last .0) in
     let T = formOf (r .form) (c .with-facts .last .1 .0) in
-    folded-took facts (read-back (read (c .before)) (λ n v t. Folded n (meetAt n t) v S facts (r .at) (r .form .ok) T) (c .with-facts .ensures))
+    read-back (read (c .before)) (λ n v t. Folded n (meetAt n t) v S facts (r .at) (r .form .ok) T) (c .with-facts .ensures)
 
 fewer :
     (c : tie.After-with-facts) → c .with-facts .result .form .ok ≡ true
@@ -73,7 +69,7 @@ fewer :
     classes (formOf (c .with-facts .result .form) (c .with-facts .last .1 .0)) (jointsOf b) ≤ classCount b
 fewer c e =
     let s = c .before .before .before .before .before .before .before .before .before .before .before .before .before .before in
-    taken-fewer (good s) (unpacked (c .before .before .before .before .before)) (rigFacts (s .args .packet .now)) (solver-said c .taken e)
+    taken-fewer (good s) (unpacked (c .before .before .before .before .before)) (rigFacts (s .args .packet .now)) (solver-said c .all e .1)
 
 -- the classes counted, for the V of the block
 counted-before : (c : tie.After-classes-in) → c .classes-in .result ≡ classCount (c .before .before .before .before .before .before .before .args .block .now)
@@ -130,7 +126,7 @@ same-length c = search needs
 returns : tie.Need-returns
 returns c =
     clash-outcome (good (c .before .before .before .before .before .before .before .before .before .before .before .before .before .before .before .before .before .before)) (c .before .before .before .before .before .before .before .before .before .unpack .result) (c .before .before .before .before .with-facts .result .form) (c .before .before .before .before .before .before .before .before .before .unpack .last .0) (c .before .before .before .before .with-facts .last .1 .0) (unpacked (c .before .before .before .before .before .before .before .before .before)) 0
-    (solver-said (c .before .before .before .before) .refuted (not-true _ (c .if1 .taken)))
+    (solver-said (c .before .before .before .before)) (not-true _ (c .if1 .taken))
 
 classes-in-requires-2 : tie.Need-classes-in-requires-2
 classes-in-requires-2 c κs = omega (arith, c .before .before .before .before .before .before .before .before .before .before .before .before .before .before .before .before .joint-count .ensures, good (c .before .before .before .before .before .before .before .before .before .before .before .before .before .before .before .before .before .before .before .before .before) .well .v-high, form-long (c .before .before .before .before .before .before .before) .0)
@@ -150,7 +146,7 @@ returns-2 : tie.Need-returns-2
 returns-2 c =
     let w = c .before .before .before .before .before .before .before .before in
     done-outcome (good (c .before .before .before .before .before .before .before .before .before .before .before .before .before .before .before .before .before .before .before .before .before .before)) (c .before .before .before .before .before .before .before .before .before .before .before .before .before .unpack .result) (c .before .before .before .before .before .before .before .before .with-facts .result .form) (c .before .before .before .before .before .before .before .before .before .before .before .before .before .unpack .last .0) (c .before .before .before .before .before .before .before .before .with-facts .last .1 .0) (unpacked (c .before .before .before .before .before .before .before .before .before .before .before .before .before))
-    (form-long w .0) (form-long w .1) (rows-left w) (solver-said w .taken (not-false _ (c .before .before .before .before .if1 .left))) _ _ (counted-before (c .before .before .before .before .before .before .before .before .before .before .before .before .before .before .before)) (counted-after (c))
+    (form-long w .0) (form-long w .1) (rows-left w) (solver-said w) (not-false _ (c .before .before .before .before .if1 .left)) _ _ (counted-before (c .before .before .before .before .before .before .before .before .before .before .before .before .before .before .before)) (counted-after (c))
 
 pub solve-spec : {M : Type 1} → statement M
 solve-spec =

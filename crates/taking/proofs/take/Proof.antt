@@ -1,11 +1,12 @@
 -- `taking::take` meets its contract: refused, or what the solver makes of the packet, stored and told.
 -- Assumes nothing.
 use mathlib.Core.Path.{_≡_, refl}
+use native.Mathlib.Omega.{arith}
 use Rattle.replies.proofs.Laws.{tested}
 use Rattle.replies.specs.declared.Reply.the-variants.{Done}
 use Rattle.taking.specs.Take.{takeRefusal}
 use Rattle.taking.specs.Take.Take.{refused}
-use Rattle.taking.proofs.Taking.{take-goes-on, taken-good, take-ends}
+use Rattle.taking.proofs.Taking.{take-goes-on, taken-good, packet-well, take-ends}
 use borrow.Author.Needs.{needs}
 use Rattle.taking.proofs.take.Statement.{statement}
 use Rattle.taking.proofs.take.Tie as tie
@@ -39,7 +40,7 @@ store-requires : tie.Need-store-requires
 store-requires c κs = (taken-good _ _ (goes-on (c .before .before .before .before .before .before .before)) .0 .size, search needs)
 
 told-requires : tie.Need-told-requires
-told-requires c κs = search needs
+told-requires c κs = omega (arith, c .before .before .before .before .before .before .before .solve .ensures .few, packet-well (taken-good _ _ (goes-on (c .before .before .before .before .before .before .before .before .before .before)) .1) .whole .few)
 
 same-length-2 : tie.Need-same-length-2
 same-length-2 c = search needs
