@@ -4,16 +4,14 @@ use mathlib.Core.Path.{_≡_, refl, _∙_}
 use mathlib.Core.Bool.{Bool, true, false}
 use mathlib.Core.List.{List, [], _∷_}
 use Prim.Native.Nat.{ℕ, _+_, _<_}
-use native.Mathlib.Omega.{arith}
 use lib.ListN.{length}
 use Rattle.kinds.specs.Kinds.{meetAt}
 use Rattle.runs.specs.Runs.{each}
 use Rattle.meaning.specs.Picture.{Fact}
-use Rattle.meaning.specs.Picture.Fact.{has-kind, same, leads}
 use Rattle.meaning.specs.Form.{Form, listForm}
 use Rattle.meaning.specs.Solving.{InRange}
 use Rattle.solver.specs.Unpacked.{Lent, Named, Ready, Took, TookPlainly}
-use Rattle.solver.proofs.OneFact.{well-named}
+use Rattle.solver.proofs.OneFact.{some-node, well-named}
 use Rattle.solver.proofs.Takes.{took-taken}
 use Rattle.solver.proofs.Folding.{Folding, fold-begins, fold-next, fold-stops, fold-ends, folded-took}
 
@@ -33,12 +31,6 @@ pub lent-still :
     {class kind rows class' kind' rows' : List ℕ} → Lent class kind rows → length class' ≡ length class → length kind' ≡ length kind
     → length rows' ≡ length rows → Lent class' kind' rows'
 lent-still l c k r = record { class-size = c ∙ l .class-size; kind-size = k ∙ l .kind-size; rows-size = r ∙ l .rows-size }
-
--- where a fact is in range there is a node
-some-node : (n v : ℕ) (g : Fact ℕ) → InRange n v g → 0 < v
-some-node n v (has-kind a s) r = omega (arith, r .0)
-some-node n v (same a b) r = omega (arith, r .0)
-some-node n v (leads a l c) r = omega (arith, r .0)
 
 module _
     {n v : ℕ} {table : List ℕ} {first : Form} {f : ℕ → Fact ℕ} {i : ℕ} {class kind rows : List ℕ} {top : ℕ}

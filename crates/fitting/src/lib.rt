@@ -125,23 +125,13 @@ fn rises(part: &[u8]) -> bool
     any == 0
 }
 
-// A number that neither of two is above: the higher.
-fn higher(a: u8, b: u8) -> u8
-    ensures { λ r. ⌜ (a ≤ r) × (b ≤ r) ⌝ }
-{
-    if a < b {
-        return b;
-    }
-    a
-}
-
 // A number that no byte of the run is above, once `more` is added to each and 255 is followed by 0.
 fn highest(part: &[u8], more: u8) -> u8
     ensures { λ r. ⌜ AtMost more r (now (part .entry)) ⌝ }
 {
     let mut most = 0u8;
     for i in 0..part.len() {
-        most = higher(most, std::num::wrapping_add_u8(part[i], more));
+        most = runs::larger(most, std::num::wrapping_add_u8(part[i], more));
     }
     most
 }

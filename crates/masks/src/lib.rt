@@ -26,15 +26,6 @@ fn word_of(x: u8) -> u64
     x as u64
 }
 
-fn larger(a: u8, b: u8) -> u8
-    ensures { λ r. ⌜ (a ≤ r) × (b ≤ r) ⌝ }
-{
-    if a < b {
-        return b;
-    }
-    a
-}
-
 // Whether every entry is a kind.
 fn all_kinds(table: &[u8], n: usize) -> bool
     requires { ⌜ Sized n (now table) ⌝ }
@@ -42,7 +33,7 @@ fn all_kinds(table: &[u8], n: usize) -> bool
 {
     let mut most = 0u8;
     for p in 0..table.len() {
-        most = larger(most, table[p]);
+        most = runs::larger(most, table[p]);
     }
     wide(most) < n
 }

@@ -1,6 +1,7 @@
 // Runs of bytes: repeated, copied, tested. No loop here has a branch beside its end, so that many bytes can be handled at once.
 ghost use mathlib.Core.Path.{_≡_};
 ghost use mathlib.Core.Bool.{true, false};
+ghost use Prim.Native.Nat.{max};
 ghost use lib.ListN.{length, replicate};
 ghost use Rattle.runs.specs.Runs.{allZero, within};
 
@@ -44,6 +45,16 @@ pub fn same(a: &[u8], b: &[u8]) -> bool
         any = any | (a[i] ^ b[i]);
     }
     any == 0
+}
+
+// The larger of two.
+pub fn larger(a: u8, b: u8) -> u8
+    ensures { λ r. ⌜ r ≡ max a b ⌝ }
+{
+    if a < b {
+        return b;
+    }
+    a
 }
 
 // Whether x is from low to high.

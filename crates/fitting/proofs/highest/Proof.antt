@@ -24,8 +24,8 @@ shared-slice-read-wrapping-add-u8 c = omega (arith, c .before .before .loop .inv
 wrapping-add-u8-requires : tie.Need-wrapping-add-u8-requires Inv-loop μ-loop
 wrapping-add-u8-requires c κs = search needs
 
-higher-requires : tie.Need-higher-requires Inv-loop μ-loop
-higher-requires c κs = search needs
+larger-requires : tie.Need-larger-requires Inv-loop μ-loop
+larger-requires c κs = search needs
 
 add-i : tie.Need-add-i Inv-loop μ-loop
 add-i c = omega arith
@@ -39,7 +39,7 @@ loop-again c =
     let i = read .before .before .loop .inv in (
       omega arith,
       i .1,
-      seen (i .2) (read .shared-slice-known2 .given _ .fits) (c .before .wrapping-add-u8 .ensures) (c .higher .ensures .0) (c .higher .ensures .1),
+      seen (i .2) (read .shared-slice-known2 .given _ .fits) (c .before .wrapping-add-u8 .ensures) (omega (arith, c .larger .ensures)) (omega (arith, c .larger .ensures)),
     )
 
 returns : tie.Need-returns Inv-loop μ-loop
@@ -54,7 +54,7 @@ highest-spec =
     loop-holds
     shared-slice-read-wrapping-add-u8
     wrapping-add-u8-requires
-    higher-requires
+    larger-requires
     add-i
     loop-less
     loop-again

@@ -30,7 +30,7 @@ loop-less : tie.Need-loop-less Inv-loop μ-loop
 loop-less c = omega arith
 
 loop-again : tie.Need-loop-again Inv-loop μ-loop
-loop-again c = let i = c .before .before .before .loop .inv in (i .0, bounded (i .1) (c .larger .ensures .0) (c .larger .ensures .1))
+loop-again c = let i = c .before .before .before .loop .inv in (i .0, bounded (i .1) (omega (arith, c .larger .ensures)) (omega (arith, c .larger .ensures)))
 
 wide-requires : tie.Need-wide-requires Inv-loop μ-loop
 wide-requires c κs = tt
