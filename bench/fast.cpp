@@ -1,6 +1,6 @@
-// What a hand makes of document 01 that cares for speed alone: the same checks at each call, sixteen bytes at once
-// (SSE2, which every x86-64 has), one mask of 64 bits a kind, facts taken in place in a working copy, links renumbered
-// once at the end. Held against the plain version by tests/host (see bench/run).
+// What a hand makes of documents 01 and 02 that cares for speed alone: the same checks at each call, sixteen bytes at
+// once (SSE2, which every x86-64 has), one mask of 64 bits a kind, facts taken in place in a working copy, links
+// renumbered once at the end; terms gone through once. Held against the plain version by tests/host (see bench/run).
 
 #include "fast.hpp"
 
@@ -581,8 +581,201 @@ uint64_t house_table(Byte* table, size_t size)
     return packed(0);
 }
 
+// -------------------------------------------------------------------------------------------------------------- terms
+
+constexpr size_t deepest_bracket = deepest_term - 1;
+
+// The facts of a term, as many as a packet holds, and the first number that is out of range.
+struct Said {
+    uint32_t facts[most_facts];
+    size_t count = 0;
+    const Byte* out_of_range = nullptr;
+
+    void say(size_t tag, size_t a, size_t x, size_t y)
+    {
+        if (count < most_facts)
+            facts[count] = static_cast<uint32_t>(tag | a << 8 | x << 16 | y << 24);
+        count++;
+    }
+};
+
+// Reads on from `at`, which is left where nothing can continue, if anywhere.
+class Reader {
+public:
+    Reader(const Byte* from, const Byte* behind) : at(from), end(behind) {}
+
+    bool has(Byte sign)
+    {
+        if (at == end || *at != sign)
+            return false;
+        at++;
+        return true;
+    }
+
+    // Of one to three digits, with no zero before others; a number out of range is noted.
+    bool number(size_t bound, size_t& value, Said& said)
+    {
+        const Byte* const first = at;
+        if (at == end || is_no_digit(*at))
+            return false;
+        value = digit(*at++);
+        if (value != 0)
+            for (const Byte* const last = first + 3; at != last && at != end && !is_no_digit(*at); at++)
+                value = 10 * value + digit(*at);
+        if (value >= bound && said.out_of_range == nullptr)
+            said.out_of_range = first;
+        return true;
+    }
+
+    const Byte* at;
+    const Byte* const end;
+
+private:
+    static size_t digit(Byte sign) { return static_cast<size_t>(sign - '0'); }
+    static bool is_no_digit(Byte sign) { return static_cast<Byte>(sign - '0') > 9; }
+};
+
+// Whether the text is a term; around it the joints of the terms that it stands in.
+bool reads(Reader& reader, size_t n, size_t v, Said& said)
+{
+    size_t around[deepest_bracket];
+    size_t brackets = 0, joint = 0, kind = 0, link = 0;
+    for (;;) {
+        if (!reader.has('@') || !reader.number(v, joint, said))
+            return false;
+        if (brackets > 0)
+            said.say(3, around[brackets - 1], link, joint);
+        if (reader.has(':')) {
+            if (!reader.number(n, kind, said))
+                return false;
+            said.say(1, joint, kind, 0);
+        }
+        if (brackets < deepest_bracket && reader.has('(')) {
+            around[brackets++] = joint;
+        } else {
+            while (brackets > 0 && reader.has(')'))
+                brackets--;
+            if (brackets == 0)
+                return reader.at == reader.end;
+            if (!reader.has(','))
+                return false;
+        }
+        if (!reader.number(links_per_joint, link, said) || !reader.has('=') || !reader.has('>'))
+            return false;
+    }
+}
+
+uint64_t read_term(const Byte* block, size_t block_size, const Byte* text, size_t text_size, Byte* out, size_t out_size)
+{
+    if (text_size > longest_text)
+        return packed(1);
+    if (const uint64_t refusal = block_reply(block, block_size))
+        return refusal;
+    const size_t v = block[1];
+    Reader reader(text, text + text_size);
+    Said said;
+    if (!reads(reader, block[0], v, said))
+        return packed(20, static_cast<size_t>(reader.at - text));
+    if (said.out_of_range != nullptr)
+        return packed(21, static_cast<size_t>(said.out_of_range - text));
+    if (said.count > most_facts)
+        return packed(22);
+    const size_t used = head_length + said.count * fact_length;
+    if (out_size < used)
+        return packed(12);
+    const Byte head[head_length] = {static_cast<Byte>((used - 2) / 256),
+                                    static_cast<Byte>((used - 2) % 256),
+                                    1,
+                                    static_cast<Byte>(Purpose::facts),
+                                    0,
+                                    static_cast<Byte>(v)};
+    std::memcpy(out, head, head_length);
+    std::memcpy(out + head_length, said.facts, said.count * fact_length);
+    return packed(0, 0, used);
+}
+
+// Writes the terms of a tree, one inside the other, and notes the joints gone through.
+class TermWriter {
+public:
+    explicit TermWriter(const Byte* its_block) : block(its_block) {}
+
+    // False where the joint is come to a second time, or too deep.
+    bool write(size_t joint, size_t brackets)
+    {
+        if (reached >> joint & 1)
+            return false;
+        reached |= uint64_t{1} << joint;
+        put('@');
+        put_number(joint);
+        const Byte kind = block[kinds_at + joint];
+        if (kind != kind_any) {
+            put(':');
+            put_number(kind);
+        }
+        const Byte* row = block + links_at + joint * links_per_joint;
+        uint64_t known = known_links(row);
+        if (known == 0)
+            return true;
+        if (brackets == deepest_bracket)
+            return false;
+        for (Byte before = '('; known != 0; known &= known - 1, before = ',') {
+            put(before);
+            put_number(lowest(known));
+            put('=');
+            put('>');
+            if (!write(row[lowest(known)], brackets + 1))
+                return false;
+        }
+        put(')');
+        return true;
+    }
+
+    uint64_t reached = 0;
+    // 64 terms @dd:dd, 63 arguments dd=>, two brackets and a comma at most for each.
+    Byte text[most_joints * 6 + most_joints * 4 + most_joints * 3];
+    size_t size = 0;
+
+private:
+    void put(Byte sign) { text[size++] = sign; }
+    void put_number(size_t number)
+    {
+        if (number > 9)
+            put(static_cast<Byte>('0' + number / 10));
+        put(static_cast<Byte>('0' + number % 10));
+    }
+
+    const Byte* block;
+};
+
+// The joints that have a kind but 1 or a link; one that a link leads to is told by whoever has the link.
+uint64_t told_joints(const Byte* block, size_t v)
+{
+    const auto is_any = [](__m128i x, size_t) { return _mm_cmpeq_epi8(x, all_bytes(kind_any)); };
+    uint64_t told = ~each_of_64(block + kinds_at, is_any) & first_bits(v);
+    for (size_t j = 0; j < v; j++)
+        told |= static_cast<uint64_t>(known_links(block + links_at + j * links_per_joint) != 0) << j;
+    return told;
+}
+
+uint64_t write_term(const Byte* block, size_t block_size, uint64_t joint, Byte* out, size_t out_size)
+{
+    if (const uint64_t refusal = block_reply(block, block_size))
+        return refusal;
+    const size_t v = block[1];
+    if (joint >= v)
+        return packed(21);
+    TermWriter writer(block);
+    if (ends_of(block, v) != first_bits(v) || !writer.write(static_cast<size_t>(joint), 0) ||
+        (told_joints(block, v) & ~writer.reached) != 0)
+        return packed(23);
+    if (out_size < writer.size)
+        return packed(12);
+    std::memcpy(out, writer.text, writer.size);
+    return packed(0, 0, writer.size);
+}
+
 } // namespace
 
-const paper::Calls calls = {open, take, ask, write, house_table};
+const paper::Calls calls = {open, take, ask, write, house_table, read_term, write_term};
 
 } // namespace fast

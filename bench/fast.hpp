@@ -1,4 +1,5 @@
-// A C++ version of document 01 made for speed alone, by which the library's own is measured.
+// A C++ version of documents 01 and 02, as far as 02 has landed, made for speed alone, by which the library's own is
+// measured.
 
 #ifndef BENCH_FAST_HPP
 #define BENCH_FAST_HPP

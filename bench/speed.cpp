@@ -34,6 +34,7 @@ struct Work {
     std::string name;
     Bytes start; // what a slot holds before the call
     std::function<std::uint64_t(const paper::Calls&, host::Byte* slot)> call;
+    size_t calls = slots; // to a turn; fewer where each takes long
 };
 
 // How many times the library takes the time of another version.
@@ -55,13 +56,13 @@ double middle(std::vector<double> values, double part = 0.5)
 
 double nanoseconds_each(const Work& work, const paper::Calls& calls, Bytes& memory)
 {
-    for (size_t slot = 0; slot < slots; slot++)
+    for (size_t slot = 0; slot < work.calls; slot++)
         std::copy(work.start.begin(), work.start.end(), memory.begin() + slot * slot_room);
     const auto began = Clock::now();
-    for (size_t slot = 0; slot < slots; slot++)
+    for (size_t slot = 0; slot < work.calls; slot++)
         work.call(calls, memory.data() + slot * slot_room);
     const std::chrono::duration<double, std::nano> took = Clock::now() - began;
-    return took.count() / slots;
+    return took.count() / static_cast<double>(work.calls);
 }
 
 void must_agree(const Work& work)
@@ -148,6 +149,34 @@ Work writing(const std::string& name, const Bytes& block)
             }};
 }
 
+Work reading(const std::string& name, const Bytes& block, const Bytes& text, size_t calls = slots)
+{
+    return {name, Bytes(slot_room, 0xee),
+            [=](const paper::Calls& version, host::Byte* slot) {
+                return version.read_term(block.data(), block.size(), text.data(), text.size(), slot,
+                                         host::longest_solved_form);
+            },
+            calls};
+}
+
+Work writing_term(const std::string& name, const Bytes& block)
+{
+    return {name, Bytes(slot_room, 0xee), [=](const paper::Calls& calls, host::Byte* slot) {
+                return calls.write_term(block.data(), block.size(), 0, slot, slot_room);
+            }};
+}
+
+Bytes term_of(const Bytes& block)
+{
+    Bytes text(slot_room);
+    text.resize(host::Implementation(plain).write_term(block, 0, text).third());
+    if (text.empty()) {
+        std::fprintf(stderr, "a tree that was to be written is refused\n");
+        std::exit(1);
+    }
+    return text;
+}
+
 // Every two kinds meet in kind 0 but for the last three, of which the last two meet in the first: the first triple
 // that tells is theirs.
 Kinds broken_late(size_t n)
@@ -226,6 +255,29 @@ void largest_table(size_t rounds)
     line(writing("write, all links known", known), rounds);
 }
 
+void terms_table(size_t rounds)
+{
+    heading("terms: house kinds");
+    const Kinds house = kinds_of(33);
+    const Bytes small = opened(house, 4);
+    line(reading("read, 3 terms, 21 bytes", small, host::bytes_of("@0:11(1=>@1:16,2=>@3)")), rounds);
+    const Bytes humanoid_start = opened(house, humanoid_joints);
+    const Bytes humanoid_known = taken(humanoid_start, humanoid_facts());
+    line(reading("read, humanoid", humanoid_start, term_of(humanoid_known)), rounds);
+    const Bytes start = opened(house, most_joints);
+    const Bytes tree = taken(start, tree_facts());
+    line(reading("read, 64 joints, 16 deep", start, term_of(tree)), rounds);
+    line(reading("read, 1 MB, over 1,088 facts", start, long_text(), 1), rounds);
+    Bytes unfinished = long_text();
+    unfinished.pop_back();
+    line(reading("read, 1 MB, no term at its end", start, unfinished, 1), rounds);
+    line(writing_term("write, humanoid", humanoid_known), rounds);
+    line(writing_term("write, 64 joints, 16 deep", tree), rounds);
+    std::vector<Fact> no_tree = tree_facts();
+    no_tree.push_back(link_leads(most_joints - 1, 0, most_joints - 1));
+    line(writing_term("write, 64 joints, refused: a loop", taken(start, no_tree)), rounds);
+}
+
 void growth(size_t rounds)
 {
     heading("with n: ask, arm rule, 25 joints, nothing known");
@@ -256,5 +308,6 @@ int main(int argc, char** argv)
     bench::opening_table(static_cast<size_t>(rounds));
     bench::humanoid_table(static_cast<size_t>(rounds));
     bench::largest_table(static_cast<size_t>(rounds));
+    bench::terms_table(static_cast<size_t>(rounds));
     bench::growth(static_cast<size_t>(rounds));
 }

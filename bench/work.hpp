@@ -5,6 +5,7 @@
 
 #include "packets.hpp"
 #include "tables.hpp"
+#include "terms.hpp"
 
 namespace bench {
 
@@ -138,6 +139,29 @@ inline Rule chain_rule(bool first_link_first, size_t facts = host::most_facts)
         rule.facts.push_back(link_leads(link, 0, link + 1));
     }
     return rule;
+}
+
+// --------------------------------------------------------------------------------------------------------- terms
+
+// A tree of 64 joints with kinds of two digits: from joint 0 four rows of 15 joints and one of three.
+inline std::vector<Fact> tree_facts()
+{
+    std::vector<Fact> facts;
+    for (size_t joint = 0; joint < most_joints; joint++) {
+        facts.push_back(has_kind(joint, 10 + joint % 23));
+        if (joint > 0)
+            facts.push_back(joint % 15 == 1 ? link_leads(0, 10 + joint / 15, joint) : link_leads(joint - 1, 15, joint));
+    }
+    return facts;
+}
+
+// Some 1,000,000 bytes: one term with far more arguments than a packet holds facts.
+inline Bytes long_text()
+{
+    std::string text = "@0(1=>@1:16";
+    while (text.size() < 999990)
+        text += ",2=>@13:23";
+    return host::bytes_of(text + ")");
 }
 
 } // namespace bench

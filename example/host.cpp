@@ -1,9 +1,11 @@
 // An example host: takes one packet of facts about a rig with the house kinds and four joints, asks three rules, shows
-// what is known of each joint, and writes the solved form. It ends with 1 if a call is refused.
+// what is known of each joint, and writes the solved form. Then a second rig is typed as terms and written back as one,
+// and a slip of the pen is shown where it stands. It ends with 1 if a call is refused that should not be.
 #include <array>
 #include <cstddef>
 #include <cstdint>
 #include <cstdio>
+#include <string_view>
 
 #include <vornulica.hpp>
 
@@ -109,6 +111,40 @@ bool write_solved_form(const Session& session)
     return true;
 }
 
+// Reads a term and takes what it says. Where the text goes wrong is shown below it.
+bool take_term(Session& session, std::string_view term)
+{
+    std::array<std::uint8_t, vornulica::max_facts_size> packet{};
+    const auto read = session.read_term(term, packet);
+    if (!read.done()) {
+        std::printf("%.*s\n%*s %s\n", static_cast<int>(term.size()), term.data(), static_cast<int>(read.place) + 1, "^",
+                    vornulica::reply_text(read.reply));
+        return false;
+    }
+    return is_done("take", session.take({packet.data(), read.size()}));
+}
+
+bool write_term(const Session& session, RigJoint joint)
+{
+    std::array<char, vornulica::max_written_term_size> text{};
+    const auto answer = session.write_term(joint, text);
+    if (!is_done("write_term", answer))
+        return false;
+    std::printf("As a term: %.*s\n", static_cast<int>(answer.size()), text.data());
+    return true;
+}
+
+// An arm part whose link 2 leads to joint 3 and link 1 to a forearm; later it is left, too.
+bool type_a_rig()
+{
+    Session session;
+    if (!is_done("open", session.open(vornulica::house_kinds, joints, vornulica::house_table())))
+        return false;
+    if (!take_term(session, "@0:9(2=>@3,1=>@1:16)") || !take_term(session, "@0:2") || !write_term(session, RigJoint(0)))
+        return false;
+    return !take_term(session, "@0:11(1=>@1:16,2=@3)");
+}
+
 bool run()
 {
     Session session;
@@ -124,7 +160,7 @@ bool run()
         return false;
     for (std::size_t joint = 0; joint < joints; joint++)
         show_joint(session, RigJoint(joint));
-    return write_solved_form(session);
+    return write_solved_form(session) && type_a_rig();
 }
 
 } // namespace

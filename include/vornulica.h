@@ -3,18 +3,19 @@
  *
  * A session holds what is known about one client rig, in a block of bytes that belongs to the host.
  * Clients send facts in packets (rig_take). A rule is asked (rig_ask): it applies, is ruled out, or waits.
+ * A rig may be typed as a term, @0:11(1=>@1:16,2=>@3), and shown as one (rig_read_term, rig_write_term).
  *
  * What holds for every call:
  * - It ends with one of the replies below, whatever bytes it is lent. The host checks nothing beforehand.
  * - A refused call changes no byte of the block or of an output: the host goes on with the same session.
- * - Where several replies fit, the lowest number is given.
+ * - Where several replies fit, the first in the call's own list is given. The lists stand at the calls.
  * - A buffer is a pointer, then its number of bytes. A null pointer with 0 bytes is an empty buffer.
  *   No alignment is needed.
  * - The host keeps buffers separate: none that a call may write overlaps another lent to that call.
  * - Nothing is allocated, and nothing is kept between calls outside the lent buffers. So calls may run
  *   side by side, as long as none writes a buffer that another one uses.
  *
- * The five calls are proved. What stands here beside them (the inline functions, the numbers and the names) is code
+ * The seven calls are proved. What stands here beside them (the inline functions, the numbers and the names) is code
  * outside the proof, held against the calls by tests.
  *
  * vornulica_packets.h builds and reads packets, vornulica_blocks.h reads a block; vornulica.hpp is all of it for C++.
@@ -31,7 +32,7 @@
 
 /* The version of this header and of the library beside it. RIG_VERSION is the text "major.minor.patch". */
 #define RIG_VERSION_MAJOR 1
-#define RIG_VERSION_MINOR 1
+#define RIG_VERSION_MINOR 2
 #define RIG_VERSION_PATCH 0
 #define RIG_VERSION RIG_TEXT_OF(RIG_VERSION_MAJOR.RIG_VERSION_MINOR.RIG_VERSION_PATCH)
 #define RIG_TEXT_OF(expanded) RIG_TEXT_AS_IT_STANDS(expanded)
@@ -166,6 +167,26 @@ enum rig_tag {
 #define RIG_MAX_RULE_SIZE (RIG_HEAD_SIZE + RIG_TIE_SIZE * RIG_MAX_TIES + RIG_FACT_SIZE * RIG_MAX_FACTS)
 
 /*
+ * A term, a rig typed as text, of bytes with no end mark:
+ *   term      @ joint, then perhaps : kind, then perhaps ( arguments )
+ *   arguments one or more, with a comma between two
+ *   argument  link => term
+ *   number    0, or one to three digits of which the first is not 0
+ * No blanks. A term inside a term is one deeper; the outermost is 1 deep. What a term says, as facts in this order: its
+ * kind if it is written, then for each argument that the link of its joint leads to the inner term's joint, followed by
+ * all that the inner term says. @0:11(1=>@1:16,2=>@3) says: 0 has kind 11; link 1 of 0 leads to 1; 1 has kind 16; link
+ * 2 of 0 leads to 3.
+ */
+#define RIG_MAX_TEXT_SIZE 16777216
+#define RIG_MAX_TERM_DEPTH 16
+
+/*
+ * The longest text that rig_write_term gives: 64 terms @dd:dd, ten of them with one digit for the joint, 63 times dd=>,
+ * and for each joint with links brackets and one comma less than links; in 64 joints, 16 deep, at least five have none.
+ */
+#define RIG_MAX_WRITTEN_TERM_SIZE 748
+
+/*
  * The number of a reply. All but RIG_DONE are refusals.
  * Later versions of the library may add numbers: a host treats one that it does not know as a refusal.
  */
@@ -173,7 +194,7 @@ enum rig_reply {
     /* Done. Place 0. */
     RIG_DONE = 0,
     /* At opening n or v out of range or a table not n x n bytes; a block not 5,250 bytes; a buffer for the
-       house table not 1,089 bytes. Place 0. */
+       house table not 1,089 bytes; a text of over 16,777,216 bytes. Place 0. */
     RIG_BAD_SIZE = 1,
     /* A table entry is n or more. Place: the offset of the first such entry. */
     RIG_NO_KIND = 2,
@@ -199,8 +220,18 @@ enum rig_reply {
        Place: the offset of the first byte of the first fact such that no rig satisfies the facts already taken and
        those of the packet up to and including it. */
     RIG_CLASH = 11,
-    /* The output is shorter than the solved form. Place 0. */
-    RIG_SHORT_OUTPUT = 12
+    /* The output is shorter than what is to be written. Place 0. */
+    RIG_SHORT_OUTPUT = 12,
+    /* The text is no term, or one of over 16 terms deep. Place: the first offset where nothing can continue the text,
+       that is how many of its first bytes some term begins with; the text's length if it ends early. */
+    RIG_NO_TERM = 20,
+    /* A number out of range: in a text a joint, a kind or a link, at writing a term the chosen joint.
+       Place: the offset of the first digit of the first such number; for the chosen joint 0. */
+    RIG_OUT_OF_RANGE = 21,
+    /* The term says over 1,088 facts. Place 0. */
+    RIG_TERM_TOO_LARGE = 22,
+    /* What is known is no tree from the chosen joint, of at most 16 joints deep. Place 0. */
+    RIG_NO_TREE = 23
 };
 
 /* The verdict on a rule: the third number of rig_ask when it is done. */
@@ -234,7 +265,7 @@ RIG_NODISCARD static inline const char* rig_reply_text(unsigned number)
     case RIG_DONE:
         return "done";
     case RIG_BAD_SIZE:
-        return "the number of kinds or of joints is out of range, or a table or block has not its size";
+        return "the number of kinds or of joints is out of range, or a table, block or text has not its size";
     case RIG_NO_KIND:
         return "an entry of the kind table is no kind";
     case RIG_LAW_BROKEN:
@@ -256,7 +287,15 @@ RIG_NODISCARD static inline const char* rig_reply_text(unsigned number)
     case RIG_CLASH:
         return "the facts clash: no rig satisfies them together with those already taken";
     case RIG_SHORT_OUTPUT:
-        return "the output is shorter than the solved form";
+        return "the output is shorter than what is to be written";
+    case RIG_NO_TERM:
+        return "the text is no term of at most 16 terms deep";
+    case RIG_OUT_OF_RANGE:
+        return "a joint, kind or link of the text, or the chosen joint, is out of range";
+    case RIG_TERM_TOO_LARGE:
+        return "the term says more than 1,088 facts";
+    case RIG_NO_TREE:
+        return "what is known is no tree from the chosen joint, of at most 16 joints deep";
     default:
         return "a refusal that this header does not know";
     }
@@ -330,6 +369,48 @@ RIG_NODISCARD uint64_t rig_ask(const uint8_t* block, size_t block_size, const ui
  * A refused call changes no byte of out.
  */
 RIG_NODISCARD uint64_t rig_write(const uint8_t* block, size_t block_size, uint8_t* out, size_t out_size);
+
+/*
+ * Reads a term and writes the packet of facts that it says, for a session with this block's kinds and joint count:
+ * rig_take takes it. A joint may stand in several terms of the text, and a link twice in one: these are only facts.
+ * RIG_MAX_FACTS_SIZE bytes are always enough.
+ *
+ * Writes, when done: the first bytes of out; the rest of out is unchanged. The block is only read.
+ * Third: the number of bytes written.
+ * Replies: RIG_DONE
+ *   RIG_BAD_SIZE       block_size not 5,250, text_size over 16,777,216
+ *   RIG_BAD_BLOCK      place 0
+ *   RIG_NO_TERM        at the first offset where nothing can continue the text: 2 in @01, 4 in @1234, 3 in @0(), at the
+ *                      text's length if it ends early, at the first byte behind a whole term, and at the bracket of
+ *                      a term that is 16 deep
+ *   RIG_OUT_OF_RANGE   at the first digit of the first joint not below the session's count, kind not below n or link
+ *                      not below 16. Kind 0 is in range
+ *   RIG_TERM_TOO_LARGE place 0
+ *   RIG_SHORT_OUTPUT   place 0
+ * A refused call changes no byte of out.
+ */
+RIG_NODISCARD uint64_t rig_read_term(const uint8_t* block, size_t block_size, const uint8_t* text, size_t text_size,
+                                     uint8_t* out, size_t out_size);
+
+/*
+ * Writes what is known as a term, from a chosen joint: kinds but 1, and links rising. Read and taken by a fresh session
+ * with the same table and joint count that text gives the same block. RIG_MAX_WRITTEN_TERM_SIZE bytes are always
+ * enough.
+ *
+ * Writes, when done: the first bytes of out; the rest of out is unchanged. There is no closing 0.
+ * Third: the number of bytes written.
+ * Replies: RIG_DONE
+ *   RIG_BAD_SIZE     block_size not 5,250
+ *   RIG_BAD_BLOCK    place 0
+ *   RIG_OUT_OF_RANGE the joint is not below the session's count; place 0
+ *   RIG_NO_TREE      unless no two joints are one, no link leads to the chosen joint, and every other joint that has a
+ *                    kind but 1, a link, or a link to it, is reached from the chosen one by exactly one walk of
+ *                    links, of at most 15; place 0
+ *   RIG_SHORT_OUTPUT place 0
+ * A refused call changes no byte of out.
+ */
+RIG_NODISCARD uint64_t rig_write_term(const uint8_t* block, size_t block_size, uint64_t joint, uint8_t* out,
+                                      size_t out_size);
 
 /*
  * Writes the meet table of the house kinds, to open sessions with.

@@ -39,6 +39,10 @@ enum class Reply : std::uint8_t {
     not_reached = RIG_NOT_REACHED,
     clash = RIG_CLASH,
     short_output = RIG_SHORT_OUTPUT,
+    no_term = RIG_NO_TERM,
+    out_of_range = RIG_OUT_OF_RANGE,
+    term_too_large = RIG_TERM_TOO_LARGE,
+    no_tree = RIG_NO_TREE,
 };
 
 enum class Verdict : std::uint8_t {
@@ -95,8 +99,11 @@ using HouseTable = std::array<std::uint8_t, RIG_HOUSE_TABLE_SIZE>;
 
 inline constexpr std::uint64_t house_kinds = RIG_HOUSE_KINDS;
 
-// An output of this size is never too short for a solved form.
+// An output of this size is never too short for a solved form, nor for what a term says.
 inline constexpr std::size_t max_facts_size = RIG_MAX_FACTS_SIZE;
+
+// An output of this size is never too short for a term that is written.
+inline constexpr std::size_t max_written_term_size = RIG_MAX_WRITTEN_TERM_SIZE;
 
 // ------------------------------------------------------------------------------------------------------------- views
 //
@@ -657,6 +664,26 @@ public:
     [[nodiscard]] WriteAnswer write(MutableBytes out) const noexcept
     {
         return {answer_of(rig_write(block_.data(), block_.size(), out.data(), out.size()))};
+    }
+
+    // Reads a term, as "@0:11(1=>@1:16,2=>@3)", and writes the packet of facts that it says to the front of out;
+    // refused, nothing. The place of a refusal is an offset in the text. No fact is taken yet:
+    //
+    //   std::array<std::uint8_t, max_facts_size> packet;
+    //   const auto read = session.read_term(text, packet);
+    //   if (read.done()) { const auto taken = session.take({packet.data(), read.size()}); }
+    [[nodiscard]] WriteAnswer read_term(std::string_view text, MutableBytes out) const noexcept
+    {
+        const Bytes bytes = text;
+        return {
+            answer_of(rig_read_term(block_.data(), block_.size(), bytes.data(), bytes.size(), out.data(), out.size()))};
+    }
+
+    // Writes what is known as a term, from the chosen joint, to the front of out; refused, nothing. There is no closing
+    // 0: the text is std::string_view(out.data(), answer.size()) of an out of chars.
+    [[nodiscard]] WriteAnswer write_term(RigJoint joint, MutableBytes out) const noexcept
+    {
+        return {answer_of(rig_write_term(block_.data(), block_.size(), joint.number(), out.data(), out.size()))};
     }
 
     // The block, to store. Only open and take write it: that is what keeps decided verdicts decided. Of a temporary it

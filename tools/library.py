@@ -16,6 +16,8 @@ PARAMETERS = {
     "rig_take": [*BYTES, *BYTES],
     "rig_ask": [*BYTES, *BYTES],
     "rig_write": [*BYTES, *BYTES],
+    "rig_read_term": [*BYTES, *BYTES, *BYTES],
+    "rig_write_term": [*BYTES, NUMBER, *BYTES],
 }
 
 

@@ -1,8 +1,8 @@
 /*
- * Each number of vornulica.h against the library, by a call that gives it. The inputs are worked out from document 01
- * and laid by hand, with the header's number in them or behind them, so that a changed number shows. The version, which
- * no call gives, is held against that of CMakeLists.txt and that of CHANGELOG.md: versions.inc, made of them by the
- * script beside this file, has a line VERSION("major.minor.patch") for each.
+ * Each number of vornulica.h against the library, by a call that gives it. The inputs are worked out from documents 01
+ * and 02 and laid by hand, with the header's number in them or behind them, so that a changed number shows. The
+ * version, which no call gives, is held against that of CMakeLists.txt and that of CHANGELOG.md: versions.inc, made of
+ * them by the script beside this file, has a line VERSION("major.minor.patch") for each.
  */
 
 #include "expect.h"
@@ -15,6 +15,7 @@ static uint8_t table[(RIG_MAX_KINDS + 1) * (RIG_MAX_KINDS + 1)];
 static uint8_t block[RIG_BLOCK_SIZE + 1];
 static uint8_t packet[65537];
 static uint8_t out[65537];
+static uint8_t text[RIG_MAX_TEXT_SIZE + 1];
 
 /* A lawful table of n kinds: no two but "any" have a meet. */
 static void lay_flat_table(size_t n)
@@ -282,22 +283,105 @@ static void verdicts(void)
     EXPECT(is_refused(take(), RIG_CLASH, 6));
 }
 
-/* Each reply's text speaks of what 01 gives the reply for, and no other number has one of its own. */
+static uint64_t read_term(const char* term)
+{
+    memcpy(text, term, strlen(term));
+    return rig_read_term(block, RIG_BLOCK_SIZE, text, strlen(term), out, sizeof out);
+}
+
+/* So many terms, each the only argument of the one before. */
+static uint64_t read_deep(size_t depth)
+{
+    char term[1024] = "@0";
+    size_t i;
+    for (i = 1; i < depth; i++)
+        strcat(term, "(1=>@0");
+    for (i = 1; i < depth; i++)
+        strcat(term, ")");
+    return read_term(term);
+}
+
+static void terms_read(void)
+{
+    static const uint8_t facts[22] = {0, 20, 1, 1, 0, 4, 1, 0, 11, 0, 3, 0, 1, 1, 1, 1, 16, 0, 3, 0, 2, 3};
+    size_t i, used;
+    open_house(4);
+    EXPECT(is_done_with(read_term("@0:11(1=>@1:16,2=>@3)"), sizeof facts));
+    EXPECT(memcmp(out, facts, sizeof facts) == 0);
+    EXPECT(is_refused(read_term("@01"), RIG_NO_TERM, 2));
+    EXPECT(is_refused(read_term("@0:32(1=>@0:33)"), RIG_OUT_OF_RANGE, 12));
+    EXPECT(is_refused(rig_read_term(block, RIG_BLOCK_SIZE, text, 2, out, RIG_HEAD_SIZE - 1), RIG_SHORT_OUTPUT, 0));
+    EXPECT(is_done_with(read_deep(RIG_MAX_TERM_DEPTH), RIG_HEAD_SIZE + RIG_FACT_SIZE * (RIG_MAX_TERM_DEPTH - 1)));
+    EXPECT(is_refused(read_deep(RIG_MAX_TERM_DEPTH + 1), RIG_NO_TERM, 2 + 6 * (RIG_MAX_TERM_DEPTH - 1)));
+
+    /* One argument a fact. */
+    used = 3;
+    memcpy(text, "@0(", used);
+    for (i = 0; i < RIG_MAX_FACTS + 1; i++, used += 6)
+        memcpy(text + used, "1=>@0,", 6);
+    text[used - 7] = ')';
+    EXPECT(is_done_with(rig_read_term(block, RIG_BLOCK_SIZE, text, used - 6, out, sizeof out), RIG_MAX_FACTS_SIZE));
+    text[used - 7] = ',';
+    text[used - 1] = ')';
+    EXPECT(is_refused(rig_read_term(block, RIG_BLOCK_SIZE, text, used, out, sizeof out), RIG_TERM_TOO_LARGE, 0));
+
+    text[0] = 'x';
+    EXPECT(is_refused(rig_read_term(block, RIG_BLOCK_SIZE, text, RIG_MAX_TEXT_SIZE, out, sizeof out), RIG_NO_TERM, 0));
+    EXPECT(is_refused(rig_read_term(block, RIG_BLOCK_SIZE, text, RIG_MAX_TEXT_SIZE + 1, out, sizeof out), RIG_BAD_SIZE,
+                      0));
+}
+
+/* 64 joints of kind 63: from joint 0 by links 10 to 14 four rows of 15 and one of three, by link 15 inside a row. */
+static void longest_term_written(void)
+{
+    size_t joint;
+    EXPECT(is_done_with(open_flat(64, 64), 0));
+    begin(RIG_FACTS, 0, 64);
+    for (joint = 0; joint < 64; joint++) {
+        fact(RIG_HAS_KIND, joint, 63, 0);
+        if (joint % 15 == 1)
+            fact(RIG_LINK_LEADS, 0, 10 + joint / 15, joint);
+        else if (joint > 0)
+            fact(RIG_LINK_LEADS, joint - 1, 15, joint);
+    }
+    EXPECT(is_done_with(take(), 0));
+    EXPECT(is_done_with(rig_write_term(block, RIG_BLOCK_SIZE, 0, out, RIG_MAX_WRITTEN_TERM_SIZE),
+                        RIG_MAX_WRITTEN_TERM_SIZE));
+    EXPECT(
+        is_refused(rig_write_term(block, RIG_BLOCK_SIZE, 0, out, RIG_MAX_WRITTEN_TERM_SIZE - 1), RIG_SHORT_OUTPUT, 0));
+}
+
+static void terms_written(void)
+{
+    open_house(4);
+    EXPECT(is_done_with(rig_write_term(block, RIG_BLOCK_SIZE, 3, out, 2), 2) && memcmp(out, "@3", 2) == 0);
+    EXPECT(is_refused(rig_write_term(block, RIG_BLOCK_SIZE, 4, out, 2), RIG_OUT_OF_RANGE, 0));
+    begin(RIG_FACTS, 0, 4);
+    fact(RIG_HAS_KIND, 1, 2, 0);
+    EXPECT(is_done_with(take(), 0));
+    EXPECT(is_refused(rig_write_term(block, RIG_BLOCK_SIZE, 3, out, 2), RIG_NO_TREE, 0));
+    EXPECT(is_done_with(rig_write_term(block, RIG_BLOCK_SIZE, 1, out, 4), 4) && memcmp(out, "@1:2", 4) == 0);
+}
+
+/* Each reply's text speaks of what the papers give the reply for, and no other number has one of its own. */
 static void texts(void)
 {
-    static const char* const words[] = {"done",    "size",  "entry", "law",     "block", "length", "version",
-                                        "purpose", "1,088", "tag",   "reached", "clash", "output"};
+    static const char* const words[24] = {"done",    "size",    "entry",   "law",   "block",   "length",
+                                          "version", "purpose", "1,088",   "tag",   "reached", "clash",
+                                          "output",  NULL,      NULL,      NULL,    NULL,      NULL,
+                                          NULL,      NULL,      "no term", "range", "1,088",   "no tree"};
     const unsigned count = sizeof words / sizeof words[0];
     const char* unknown = rig_reply_text(255);
     unsigned number, other;
-    for (number = 0; number < count; number++) {
+    for (number = 0; number < 300; number++) {
+        const bool is_known = number < count && words[number] != NULL;
+        EXPECT((strcmp(rig_reply_text(number), unknown) != 0) == is_known);
+        if (!is_known)
+            continue;
         EXPECT(strstr(rig_reply_text(number), words[number]) != NULL);
-        EXPECT(strcmp(rig_reply_text(number), unknown) != 0);
         for (other = 0; other < number; other++)
             EXPECT(strcmp(rig_reply_text(number), rig_reply_text(other)) != 0);
     }
-    for (number = count; number < 300; number++)
-        EXPECT(strcmp(rig_reply_text(number), unknown) == 0);
 }
 
 static void versions(void)
@@ -325,6 +409,9 @@ int main(void)
     packets_refused();
     layout_of_blocks();
     verdicts();
+    terms_read();
+    longest_term_written();
+    terms_written();
     texts();
     versions();
     return expectations_missed == 0 ? 0 : 1;

@@ -1,5 +1,6 @@
 /*
- * The plain functions of the C headers, compiled as C: the examples of document 01 built, asked, read back and shown.
+ * The plain functions of the C headers, compiled as C: the examples of document 01 built, asked, read back and shown,
+ * and that of order 2 of document 02 typed.
  * That they lay the right bytes in general is shown by packets.cpp and blocks.cpp.
  */
 
@@ -108,6 +109,24 @@ static void clashing_fact(void)
     EXPECT(fact.tag == RIG_HAS_KIND && fact.joint.number == 2 && fact.number == RIG_KIND_RIGHT);
 }
 
+/* A rig typed as a term, taken and shown. */
+static void typed_rig(void)
+{
+    static const char term[] = "@0:11(1=>@1:16,2=>@3)";
+    static const uint8_t wanted[] = {0, 20, 1, 1, 0, 4, 1, 0, 11, 0, 3, 0, 1, 1, 1, 1, 16, 0, 3, 0, 2, 3};
+    uint8_t text[RIG_MAX_WRITTEN_TERM_SIZE];
+    uint64_t answer;
+    EXPECT(rig_is_done(rig_open(RIG_HOUSE_KINDS, 4, table, sizeof table, block, sizeof block)));
+    answer = rig_read_term(block, sizeof block, (const uint8_t*)term, sizeof term - 1, bytes, sizeof bytes);
+    EXPECT(rig_is_done(answer) && rig_third(answer) == sizeof wanted && memcmp(bytes, wanted, sizeof wanted) == 0);
+    EXPECT(rig_is_done(rig_take(block, sizeof block, bytes, rig_third(answer))));
+    answer = rig_write_term(block, sizeof block, 0, text, sizeof text);
+    EXPECT(rig_is_done(answer) && rig_third(answer) == sizeof term - 1 && memcmp(text, term, sizeof term - 1) == 0);
+    /* With the closing 0 it is no term. */
+    answer = rig_read_term(block, sizeof block, (const uint8_t*)term, sizeof term, bytes, sizeof bytes);
+    EXPECT(rig_number(answer) == RIG_NO_TERM && rig_place(answer) == sizeof term - 1);
+}
+
 /* What does not fit is told, and leaves no packet in the buffer either. */
 static void full_buffers(void)
 {
@@ -127,6 +146,7 @@ int main(void)
     rules_of_the_examples();
     what_is_known();
     clashing_fact();
+    typed_rig();
     full_buffers();
     return expectations_missed == 0 ? 0 : 1;
 }

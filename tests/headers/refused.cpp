@@ -17,7 +17,7 @@ void asks(Session& session);
 void keeps();
 void builds();
 
-// Answers thrown away.
+// Answers thrown away, and a joint that is none of the rig's.
 void asks(Session& session)
 {
     const auto packet = received();
@@ -47,40 +47,55 @@ void asks(Session& session)
 #else
     static_cast<void>(rig_ask(session.block().data(), RIG_BLOCK_SIZE, packet.data(), packet.size()));
 #endif
+#if CASE == 6
+    session.read_term("@0", out);
+#else
+    static_cast<void>(session.read_term("@0", out));
+#endif
+#if CASE == 7
+    session.write_term(RigJoint(0), out);
+#else
+    static_cast<void>(session.write_term(RigJoint(0), out));
+#endif
+#if CASE == 8
+    static_cast<void>(session.write_term(RuleJoint(0), out));
+#else
+    static_cast<void>(session.write_term(RigJoint(0), out));
+#endif
 }
 
 // Views of what is gone at the end of the line.
 void keeps()
 {
-#if CASE == 6
+#if CASE == 9
     const Bytes table = house_table();
 #else
     const auto owned_table = house_table();
     const Bytes table = owned_table;
 #endif
-#if CASE == 7
+#if CASE == 10
     const Bytes packet = received();
 #else
     const auto owned_packet = received();
     const Bytes packet = owned_packet;
 #endif
-#if CASE == 8
+#if CASE == 11
     const Bytes block = restored().block();
 #else
     const auto session = restored();
     const Bytes block = session.block();
 #endif
-#if CASE == 9
+#if CASE == 12
     const auto reader = restored().read();
 #else
     const auto reader = session.read();
 #endif
-#if CASE == 10
+#if CASE == 13
     const PacketReader packet_reader(received());
 #else
     const PacketReader packet_reader(packet);
 #endif
-#if CASE == 11
+#if CASE == 14
     const MutableBytes out = received();
 #else
     auto owned_out = received();
@@ -94,37 +109,37 @@ void builds()
 {
     FactsPacket<2> facts(4);
     RulePacket<2> rule(2);
-#if CASE == 12
+#if CASE == 15
     const RigJoint joint = 3;
 #else
     const RigJoint joint(3);
 #endif
-#if CASE == 13
+#if CASE == 16
     facts.kind(RuleJoint(0), HouseKind::left);
 #else
     facts.kind(joint, HouseKind::left);
 #endif
-#if CASE == 14
+#if CASE == 17
     rule.link(RuleJoint(0), 1, RigJoint(1));
 #else
     rule.link(RuleJoint(0), 1, RuleJoint(1));
 #endif
-#if CASE == 15
+#if CASE == 18
     rule.tie(joint, RuleJoint(0));
 #else
     rule.tie(RuleJoint(0), joint);
 #endif
-#if CASE == 16
+#if CASE == 19
     facts.tie(RuleJoint(0), joint);
 #else
     facts.same(joint, RigJoint(0));
 #endif
-#if CASE == 17
+#if CASE == 20
     RulePacket<1>(1).tie(RuleJoint(0), joint);
 #else
     rule.tie(RuleJoint(0), joint);
 #endif
-#if CASE == 18
+#if CASE == 21
     FactsBuilder again = facts;
 #else
     auto again = facts;

@@ -1,5 +1,5 @@
 // What the views of vornulica.hpp are made of and what they refuse; joints that are not mixed up; sessions compared;
-// and numbers of document 01 under their names in C++.
+// terms typed and shown; and numbers of documents 01 and 02 under their names in C++.
 
 #include "expect.h"
 #include "vornulica.hpp"
@@ -146,7 +146,7 @@ static_assert(noexcept(std::declval<PacketReader&>().tie(0)) && noexcept(std::de
 static_assert(
     noexcept(std::declval<BlockReader&>().joint(RigJoint(0))) && noexcept(std::declval<BlockReader&>().good()));
 
-// ----------------------------------------------------------------------------------------------- the numbers of 01
+// ---------------------------------------------------------------------------------------- the numbers of 01 and 02
 
 template <class Enum> constexpr int number_of(Enum value) { return static_cast<int>(value); }
 
@@ -156,9 +156,12 @@ static_assert(number_of(Reply::bad_length) == 5 && number_of(Reply::bad_version)
 static_assert(number_of(Reply::bad_header) == 7 && number_of(Reply::bad_count) == 8);
 static_assert(number_of(Reply::bad_part) == 9 && number_of(Reply::not_reached) == 10);
 static_assert(number_of(Reply::clash) == 11 && number_of(Reply::short_output) == 12);
+static_assert(number_of(Reply::no_term) == 20 && number_of(Reply::out_of_range) == 21);
+static_assert(number_of(Reply::term_too_large) == 22 && number_of(Reply::no_tree) == 23);
 static_assert(number_of(Verdict::applies) == 1 && number_of(Verdict::ruled_out) == 2 && number_of(Verdict::waits) == 3);
 static_assert(number_of(Purpose::facts) == 1 && number_of(Purpose::rule) == 2);
 static_assert(number_of(Tag::has_kind) == 1 && number_of(Tag::is_one_with) == 2 && number_of(Tag::link_leads) == 3);
+static_assert(max_written_term_size == 748);
 static_assert(house_kinds == 33 && sizeof(HouseTable) == 1089 && sizeof(Block) == 5250 && max_facts_size == 4358);
 
 // ------------------------------------------------------------------------------------------------------- sessions
@@ -205,6 +208,36 @@ void sessions()
     EXPECT(clashing && clashing->joint == RigJoint(2) && clashing->number == number_of(HouseKind::right));
 }
 
+// The example of order 2, as a text in quotes, a string and a view; a text in quotes is lent without its closing 0.
+void terms()
+{
+    Session session;
+    EXPECT(session.open(house_kinds, 4, house_table()).done());
+    const std::string_view term = "@0:11(1=>@1:16,2=>@3)";
+    const Octets facts = {0, 20, 1, 1, 0, 4, 1, 0, 11, 0, 3, 0, 1, 1, 1, 1, 16, 0, 3, 0, 2, 3};
+    std::array<std::uint8_t, max_facts_size> packet{};
+    WriteAnswer read = session.read_term("@0:11(1=>@1:16,2=>@3)", packet);
+    EXPECT(read.done() && read.size() == facts.size() && std::equal(facts.begin(), facts.end(), packet.begin()));
+    EXPECT(session.read_term(std::string(term), packet).done() && session.read_term(term, packet).done());
+    EXPECT(session.read_term("@0 ", packet).reply == Reply::no_term);
+    read = session.read_term(term.substr(0, 6), packet);
+    EXPECT(read.reply == Reply::no_term && read.place == 6 && read.size() == 0);
+    read = session.read_term({}, packet);
+    EXPECT(read.reply == Reply::no_term && read.place == 0);
+    read = session.read_term("@0(1=>@4)", packet);
+    EXPECT(read.reply == Reply::out_of_range && read.place == 7);
+    EXPECT(session.read_term(term, MutableBytes()).reply == Reply::short_output);
+
+    EXPECT(session.take({packet.data(), facts.size()}).done());
+    std::array<char, max_written_term_size> text{};
+    const WriteAnswer written = session.write_term(RigJoint(0), text);
+    EXPECT(written.done() && std::string_view(text.data(), written.size()) == term && text[written.size()] == 0);
+    EXPECT(session.write_term(RigJoint(1), text).reply == Reply::no_tree);
+    EXPECT(session.write_term(RigJoint(4), text).reply == Reply::out_of_range);
+    EXPECT(session.write_term(RigJoint(std::uint64_t{1} << 32), text).reply == Reply::out_of_range);
+    EXPECT(Session().read_term(term, packet).reply == Reply::bad_block);
+}
+
 void copies_of_packets()
 {
     FactsPacket<2> first(4);
@@ -233,6 +266,7 @@ void texts()
 int main()
 {
     sessions();
+    terms();
     copies_of_packets();
     texts();
     return expectations_missed == 0 ? 0 : 1;

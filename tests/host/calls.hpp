@@ -13,12 +13,12 @@ namespace host {
 
 using namespace layout;
 
-enum class Name { open, take, ask, write, house };
-constexpr size_t name_count = 5;
-constexpr const char* name_text[name_count] = {"open", "take", "ask", "write", "house"};
+enum class Name { open, take, ask, write, house, read_term, write_term };
+constexpr size_t name_count = 7;
+constexpr const char* name_text[name_count] = {"open", "take", "ask", "write", "house", "read_term", "write_term"};
 
-enum Slot { table_slot, block_slot, packet_slot, out_slot, slot_count };
-constexpr const char* slot_text[slot_count] = {"table", "block", "packet", "out"};
+enum Slot { table_slot, block_slot, packet_slot, text_slot, out_slot, slot_count };
+constexpr const char* slot_text[slot_count] = {"table", "block", "packet", "text", "out"};
 
 // Where a buffer lies in the memory lent: between guard bytes, or with an end at memory that may not be touched at all,
 // so that reading past it shows as well.
@@ -36,6 +36,7 @@ struct Call {
     Name name = Name::open;
     std::uint64_t n = 0;
     std::uint64_t v = 0;
+    std::uint64_t joint = 0; // chosen, at write_term
     std::array<Lent, slot_count> lent;
     bool goes_on = false; // the session goes on with the block this call leaves
 };
@@ -57,6 +58,18 @@ inline Call open_with(std::uint64_t n, std::uint64_t v, const Bytes& table, cons
     Call call = call_with(Name::open, {{table_slot, table}, {block_slot, block}});
     call.n = n;
     call.v = v;
+    return call;
+}
+
+inline Call read_term_with(const Bytes& block, const Bytes& text, const Bytes& out)
+{
+    return call_with(Name::read_term, {{block_slot, block}, {text_slot, text}, {out_slot, out}});
+}
+
+inline Call write_term_with(const Bytes& block, std::uint64_t joint, const Bytes& out)
+{
+    Call call = call_with(Name::write_term, {{block_slot, block}, {out_slot, out}});
+    call.joint = joint;
     return call;
 }
 

@@ -15,7 +15,7 @@ class Coverage {
 public:
     void count(const Call& call, const Answer& answer)
     {
-        replies[static_cast<size_t>(call.name)][answer.number() % number_count]++;
+        replies[static_cast<size_t>(call.name)][answer.number()]++;
         const Bytes& packet = call.lent[packet_slot].bytes;
         const Bytes& block = call.lent[block_slot].bytes;
         if (answer.number() == 7)
@@ -56,6 +56,10 @@ public:
             if (answer.third() > 4000)
                 hit("a solved form of over 4,000 bytes");
         }
+        if (call.name == Name::read_term)
+            count_read_term(call, answer);
+        if (call.name == Name::write_term)
+            count_write_term(call, answer);
         if (answer.number() == 12 && call.lent[out_slot].null)
             hit("null output");
         if (answer.number() == 5 && call.lent[packet_slot].null)
@@ -76,17 +80,17 @@ public:
 
     void print() const
     {
-        std::printf("  reply     ");
-        for (size_t number = 0; number < number_count; number++)
-            std::printf("%7zu", number);
+        std::printf("  reply      ");
+        for (const size_t number : numbers)
+            std::printf("%6zu", number);
         std::printf("\n");
         for (size_t name = 0; name < name_count; name++) {
-            std::printf("  %-9s ", name_text[name]);
-            for (size_t number = 0; number < number_count; number++)
+            std::printf("  %-10s ", name_text[name]);
+            for (const size_t number : numbers)
                 if (replies[name][number] == 0)
-                    std::printf("      .");
+                    std::printf("     .");
                 else
-                    std::printf("%7zu", replies[name][number]);
+                    std::printf("%6zu", replies[name][number]);
             std::printf("\n");
         }
         std::printf("  verdicts   applies %zu, ruled out %zu, waits %zu\n", verdicts[1], verdicts[2], verdicts[3]);
@@ -106,7 +110,8 @@ public:
     std::string missing() const
     {
         static const std::vector<size_t> possible[name_count] = {
-            {0, 1, 2, 3}, {0, 1, 4, 5, 6, 7, 8, 9, 11}, {0, 1, 4, 5, 6, 7, 8, 9, 10}, {0, 1, 4, 12}, {0, 1}};
+            {0, 1, 2, 3}, {0, 1, 4, 5, 6, 7, 8, 9, 11}, {0, 1, 4, 5, 6, 7, 8, 9, 10}, {0, 1, 4, 12},
+            {0, 1},       {0, 1, 4, 20, 21, 22, 12},    {0, 1, 4, 21, 23, 12}};
         std::string text;
         for (size_t name = 0; name < name_count; name++)
             for (const size_t number : possible[name])
@@ -142,6 +147,17 @@ public:
                                  "over 60,000 bytes refused",
                                  "an output of just the length",
                                  "a solved form of over 4,000 bytes",
+                                 "a term 16 deep read",
+                                 "a term told to be too deep",
+                                 "a text that ends early",
+                                 "a term of 1,088 facts read",
+                                 "an output of just a term's packet",
+                                 "a tree of 64 joints written",
+                                 "a tree 16 deep written",
+                                 "a term with joints left out",
+                                 "an output of just a term",
+                                 "a chosen joint beyond 32 bits",
+                                 "null text",
                                  "null output",
                                  "null packet",
                                  "null block",
@@ -156,10 +172,62 @@ public:
     }
 
 private:
-    static constexpr size_t number_count = 13;
+    static constexpr size_t number_count = 256;
     static constexpr size_t verdict_count = 4;
+    static constexpr size_t numbers[] = {0, 1, 2, 3, 4, 5, 6, 7, 8, 9, 10, 11, 12, 20, 21, 22, 23};
 
     void hit(const std::string& what) { hits[what]++; }
+
+    void count_read_term(const Call& call, const Answer& answer)
+    {
+        const Bytes& text = call.lent[text_slot].bytes;
+        const size_t deepest = deepest_in(text.begin(), text.end());
+        if (answer.number() == 0 && deepest == deepest_term)
+            hit("a term 16 deep read");
+        if (answer.number() == 20 && answer.place() < text.size() && text[answer.place()] == '(' &&
+            deepest_in(text.begin(), text.begin() + answer.place() + 1) > deepest_term)
+            hit("a term told to be too deep");
+        if (answer.number() == 20 && answer.place() == text.size())
+            hit("a text that ends early");
+        if (answer.number() == 0 && answer.third() == longest_solved_form)
+            hit("a term of 1,088 facts read");
+        if (answer.number() == 0 && answer.third() == call.lent[out_slot].bytes.size())
+            hit("an output of just a term's packet");
+        if (answer.number() == 20 && call.lent[text_slot].null)
+            hit("null text");
+    }
+
+    void count_write_term(const Call& call, const Answer& answer)
+    {
+        if (answer.number() == 21 && call.joint >> 32 != 0)
+            hit("a chosen joint beyond 32 bits");
+        if (answer.number() != 0)
+            return;
+        const Bytes& block = call.lent[block_slot].bytes;
+        Bytes text(answer.third());
+        Implementation(paper::calls(paper::Fault::none)).write_term(block, call.joint, text);
+        const auto joints = static_cast<size_t>(std::count(text.begin(), text.end(), '@'));
+        if (joints == most_joints)
+            hit("a tree of 64 joints written");
+        if (deepest_in(text.begin(), text.end()) == deepest_term)
+            hit("a tree 16 deep written");
+        if (joints < block[1])
+            hit("a term with joints left out");
+        if (answer.third() == call.lent[out_slot].bytes.size())
+            hit("an output of just a term");
+    }
+
+    // How deep its brackets go, the outermost term being 1 deep.
+    static size_t deepest_in(Bytes::const_iterator from, Bytes::const_iterator to)
+    {
+        size_t depth = 1, deepest = 1;
+        for (; from != to; ++from) {
+            depth += *from == '(';
+            depth -= *from == ')';
+            deepest = std::max(deepest, depth);
+        }
+        return deepest;
+    }
 
     void count_clash(const Bytes& block, const Bytes& packet, size_t place)
     {

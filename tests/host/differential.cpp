@@ -1,5 +1,6 @@
-// The library against the plain version: random sessions from fixed seeds, and small inputs gone through one by one.
-// Then, without the plain version, the examples of the documents, small sessions by the meaning, and demand 3.
+// The library against the plain version: random sessions from fixed seeds, and small inputs gone through one by one,
+// all texts of up to six signs among them. Then, without the plain version, the examples of the documents, small
+// sessions by the meaning, demand 3, and terms written and read back.
 //
 //   differential [--calls N]     at least N random calls, 250,000 if not given
 //   differential --session K     one session again, each of its calls described
@@ -9,10 +10,14 @@
 
 #include "coverage.hpp"
 #include "demand3.hpp"
+#include "every_text.hpp"
 #include "examples.hpp"
 #include "library.hpp"
 #include "meaning.hpp"
 #include "sweep.hpp"
+#include "term_examples.hpp"
+#include "term_sweep.hpp"
+#include "term_trips.hpp"
 #include "walk.hpp"
 
 #include <set>
@@ -40,23 +45,68 @@ bool library_agrees(std::uint64_t seed, Side& tried, Side& plain, Coverage& cove
     });
 }
 
-// The small inputs of sweep.hpp, up to where enough of them differ; gives how many do.
-size_t sweep_differing(Side& tried, Side& plain, size_t& calls_made)
+// The small inputs of sweep.hpp, and one in so many of those of term_sweep.hpp, up to where enough of them differ;
+// gives how many do.
+size_t sweep_differing(Side& tried, Side& plain, size_t one_in, size_t& calls_made)
 {
     size_t differing = 0;
-    Sweep([&](const Call& call) {
+    size_t of_terms = 0;
+    const auto make = [&](const Call& call) {
         if (differing == most_differences_shown)
             return;
         const std::string where = "small inputs, call " + std::to_string(calls_made++);
         watch::now_at(where);
         if (!agree(where, call, tried, plain))
             differing++;
+    };
+    Sweep([&](const Call& call) { make(call); });
+    TermSweep([&](const Call& call) {
+        if (of_terms++ % one_in == 0)
+            make(call);
     });
     return differing;
 }
 
 constexpr size_t meaning_sessions = 300;
 constexpr size_t calls_to_a_meaning_session = 800; // fewer of both in a short run
+constexpr size_t calls_of_a_long_run = 100000;
+constexpr size_t signs_of_every_text = 6; // and 4 in a short run
+constexpr size_t calls_to_a_term_trip = 500;
+
+// Terms: the examples worked by hand, every short text beside the plain version, and texts there and back.
+bool terms_hold(size_t calls_wanted)
+{
+    bool good = true;
+    const auto tell = [&](const std::string& problem) {
+        if (!problem.empty())
+            std::printf("%s\n", problem.c_str());
+        good = good && problem.empty();
+    };
+    watch::now_at("the examples of terms");
+    for (const auto& [name, calls] :
+         {std::pair<const char*, const paper::Calls*>{"the plain version", &paper::calls(Fault::none)},
+          {"the library by vornulica.h", &library_by_c},
+          {"the library by vornulica.hpp", &library_by_cpp}}) {
+        const std::string failing = TermExamples::failing(*calls);
+        if (!failing.empty())
+            tell(std::string("examples of terms that ") + name + " gives otherwise: " + failing);
+    }
+    watch::now_at("every short text");
+    size_t texts = 0;
+    tell(EveryText(library).failing(calls_wanted < calls_of_a_long_run ? 4 : signs_of_every_text, texts));
+    TermTrips::Counts trips;
+    std::uint64_t rounds = 0;
+    for (; rounds < calls_wanted / calls_to_a_term_trip && good; rounds++) {
+        watch::now_at("terms there and back, round " + std::to_string(rounds));
+        tell(TermTrips::failing(library_by_c, rounds, trips));
+    }
+    std::printf("differential: every text of up to %zu signs, %zu in all; %zu calls of terms there and back, %zu texts "
+                "written, "
+                "%zu places of 20 held against completions\n",
+                calls_wanted < calls_of_a_long_run ? 4 : signs_of_every_text, texts, trips.calls, trips.written,
+                trips.places);
+    return good;
+}
 
 bool compare_with_library(size_t calls_wanted)
 {
@@ -80,11 +130,14 @@ bool compare_with_library(size_t calls_wanted)
         good = false;
     }
 
+    good = terms_hold(calls_wanted) && good;
+
     Side tried(library_by_c);
     Side plain(paper::calls(Fault::none));
     Coverage coverage;
     size_t swept_calls = 0;
-    const size_t swept_differing = sweep_differing(tried, plain, swept_calls);
+    const size_t swept_differing =
+        sweep_differing(tried, plain, calls_wanted < calls_of_a_long_run ? 10 : 1, swept_calls);
     size_t calls_made = 0, differing = 0;
     std::uint64_t sessions = 0;
     while (calls_made < calls_wanted && differing < most_differences_shown)
@@ -153,7 +206,12 @@ bool faults_caught_by_stream(size_t most_calls, bool verbose)
     std::string last = "none";
     Side plain(paper::calls(Fault::none));
     Side tried(paper::calls(Fault::none));
-    std::vector<Fault> hidden = all_faults();
+    // A text of 2^24 bytes is no random call.
+    std::vector<Fault> faults;
+    for (const Fault fault : all_faults())
+        if (fault != Fault::longer_text_read && fault != Fault::longest_text_not_read)
+            faults.push_back(fault);
+    std::vector<Fault> hidden = faults;
     size_t calls_made = 0;
     const auto try_all = [&](const std::string& where, const Call& call) {
         calls_made++;
@@ -182,7 +240,7 @@ bool faults_caught_by_stream(size_t most_calls, bool verbose)
     for (const Fault fault : hidden)
         std::printf("  %-30s NOT caught in %zu random calls\n", paper::fault_name(fault), calls_made);
     std::printf("self-check: %zu of %zu faults caught by random calls, the last one %s\n",
-                all_faults().size() - hidden.size(), all_faults().size(), last.c_str());
+                faults.size() - hidden.size(), faults.size(), last.c_str());
     return hidden.empty();
 }
 
@@ -272,6 +330,11 @@ const std::set<Fault> wrong_places_of_clashes = {
     Fault::clash_at_last_fact,
     Fault::far_clash_at_last_fact,
 };
+const std::set<Fault> faults_of_terms = {
+#define PAPER_TERM_FAULT(name) Fault::name,
+    PAPER_TERM_FAULTS(PAPER_TERM_FAULT)
+#undef PAPER_TERM_FAULT
+};
 std::set<Fault> all_of(const std::vector<std::set<Fault>>& sets)
 {
     std::set<Fault> all;
@@ -310,6 +373,32 @@ bool self_check(size_t most_calls, bool verbose)
                 {Fault::joins_stop_at_links, Fault::unknown_link_rules_out, Fault::clash_keeps_earlier_facts,
                  Fault::class_named_by_largest, Fault::refuses_every_packet, Fault::takes_first_packet_only,
                  Fault::invented_joins, Fault::last_link_forgotten, Fault::ask_stores}}));
+    good &= check_tells_apart(
+        "the examples of terms", [](const paper::Calls& calls) { return TermExamples::failing(calls); },
+        faults_of_terms);
+    good &= check_tells_apart(
+        "every text of up to four signs",
+        [](const paper::Calls& calls) {
+            size_t texts = 0;
+            return EveryText(calls).failing(4, texts);
+        },
+        {Fault::leading_zero_read, Fault::three_digits_not_read, Fault::blanks_read, Fault::empty_brackets_read,
+         Fault::rest_of_text_ignored, Fault::early_end_told_at_last_byte, Fault::out_of_range_before_no_term,
+         Fault::out_of_range_at_sign, Fault::joint_v_read, Fault::kind_0_out_of_range, Fault::rest_of_packet_cleared});
+    good &= check_tells_apart(
+        "terms there and back",
+        [](const paper::Calls& calls) {
+            std::string problem;
+            TermTrips::Counts counts;
+            for (std::uint64_t seed = 0; seed < 300 && problem.empty(); seed++)
+                problem = TermTrips::failing(calls, seed, counts);
+            return problem;
+        },
+        {Fault::term_17_deep_read, Fault::term_16_deep_not_read, Fault::deep_term_told_late,
+         Fault::early_end_told_at_last_byte, Fault::kind_0_out_of_range, Fault::all_links_of_outermost,
+         Fault::joined_joints_left_out, Fault::loop_at_chosen_left_out, Fault::kind_not_reached_left_out,
+         Fault::link_not_reached_left_out, Fault::lone_joint_refused, Fault::two_walks_pass,
+         Fault::tree_16_deep_not_written, Fault::kind_of_chosen_left_out, Fault::rest_of_text_cleared});
     good &= faults_caught_by_stream(most_calls, verbose);
     return good;
 }

@@ -24,7 +24,7 @@ namespace host {
 // Room for one buffer, with a page on either side that may not be touched.
 class LentMemory {
 public:
-    LentMemory()
+    explicit LentMemory(size_t its_room = 2 * page) : room(its_room)
     {
         void* all = mmap(nullptr, page + room + page, PROT_NONE, MAP_PRIVATE | MAP_ANONYMOUS, -1, 0);
         if (all == MAP_FAILED) {
@@ -77,9 +77,9 @@ public:
     const Byte* bytes() const { return at; }
     size_t length() const { return size; }
 
-private:
     static constexpr size_t page = 65536; // whole pages for any usual page size
-    static constexpr size_t room = 2 * 65536;
+
+private:
     static constexpr size_t guard = 48;
 
     static Byte guard_byte(size_t i) { return static_cast<Byte>(0xc5 ^ 7 * i); }
@@ -92,11 +92,15 @@ private:
             __asan_poison_memory_region(at - guard_before, guard_before);
             __asan_poison_memory_region(at + size, guard_after);
         } else {
-            __asan_unpoison_memory_region(start, room);
+            // By whole granules of the sanitizer; all of the room would take too long for one that holds a long text.
+            const size_t from = static_cast<size_t>(at - guard_before - start) / 8 * 8;
+            const size_t to = (static_cast<size_t>(at + size + guard_after - start) + 7) / 8 * 8;
+            __asan_unpoison_memory_region(start + from, to - from);
         }
 #endif
     }
 
+    const size_t room;
     Byte* start = nullptr;
     Byte* at = nullptr;
     size_t size = 0;
@@ -150,7 +154,8 @@ public:
     Bytes left(Slot slot) const { return Bytes(memory[slot].bytes(), memory[slot].bytes() + memory[slot].length()); }
 
     Answer answer;
-    std::array<LentMemory, slot_count> memory;
+    std::array<LentMemory, slot_count> memory = {LentMemory(), LentMemory(), LentMemory(),
+                                                 LentMemory(longest_text + 2 * LentMemory::page), LentMemory()};
 
 private:
     std::uint64_t given(const Call& call) const
@@ -166,6 +171,11 @@ private:
             return calls->ask(block, block_size, pointer[packet_slot], length[packet_slot]);
         case Name::write:
             return calls->write(block, block_size, pointer[out_slot], length[out_slot]);
+        case Name::read_term:
+            return calls->read_term(block, block_size, pointer[text_slot], length[text_slot], pointer[out_slot],
+                                    length[out_slot]);
+        case Name::write_term:
+            return calls->write_term(block, block_size, call.joint, pointer[out_slot], length[out_slot]);
         default:
             return calls->house(pointer[table_slot], length[table_slot]);
         }
@@ -184,6 +194,16 @@ inline std::string hex(const Byte* bytes, size_t from, size_t to)
         std::snprintf(two, sizeof two, "%02x", bytes[i]);
         text += (i == from ? "" : " ") + std::string(two);
     }
+    return text;
+}
+
+// A text as it stands, but for bytes that no term has: each of them is a dot.
+inline std::string readable(const Byte* bytes, size_t size)
+{
+    std::string text(bytes, bytes + size);
+    for (char& sign : text)
+        if (sign < ' ' || sign > '~')
+            sign = '.';
     return text;
 }
 
@@ -220,13 +240,15 @@ inline std::string difference(const Call& call, const Side& tried, const Side& p
     return text;
 }
 
-// The call itself, short enough to read: all of a small packet, the start of a large one, and of a block what it holds
-// about the first joints.
+// The call itself, short enough to read: all of a small packet or text, the start of a large one, and of a block what
+// it holds about the first joints.
 inline std::string description(const Call& call)
 {
     std::string text = std::string("  call ") + name_text[static_cast<size_t>(call.name)];
     if (call.name == Name::open)
         text += ", n " + std::to_string(call.n) + ", V " + std::to_string(call.v);
+    if (call.name == Name::write_term)
+        text += ", joint " + std::to_string(call.joint);
     text += "\n";
     for (size_t slot = 0; slot < slot_count; slot++) {
         const Lent& lent = call.lent[slot];
@@ -244,6 +266,10 @@ inline std::string description(const Call& call)
                 text += "    " + hex(lent.bytes.data(), at, std::min(at + 32, shown)) + "\n";
             if (shown < lent.bytes.size())
                 text += "    ...\n";
+        }
+        if (slot == text_slot) {
+            const size_t shown = std::min<size_t>(lent.bytes.size(), 100);
+            text += "    " + readable(lent.bytes.data(), shown) + (shown < lent.bytes.size() ? "..." : "") + "\n";
         }
         if (slot == block_slot && call.name != Name::open && lent.bytes.size() == block_length) {
             const Byte* block = lent.bytes.data();

@@ -56,6 +56,16 @@ public:
         made++;
         return {calls.house(table.data(), table.size())};
     }
+    Answer read_term(const Bytes& block, const Bytes& text, Bytes& out)
+    {
+        made++;
+        return {calls.read_term(block.data(), block.size(), text.data(), text.size(), out.data(), out.size())};
+    }
+    Answer write_term(const Bytes& block, std::uint64_t joint, Bytes& out)
+    {
+        made++;
+        return {calls.write_term(block.data(), block.size(), joint, out.data(), out.size())};
+    }
 
     size_t made = 0; // calls
 

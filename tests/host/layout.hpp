@@ -1,5 +1,5 @@
-// The numbers that document 01 fixes: limits, where things lie in a block and in a packet, and bytes with a meaning of
-// their own.
+// The numbers that documents 01 and 02 fix: limits, where things lie in a block and in a packet, and bytes with a
+// meaning of their own.
 
 #ifndef HOST_LAYOUT_HPP
 #define HOST_LAYOUT_HPP
@@ -35,6 +35,9 @@ constexpr size_t longest_solved_form = head_length + fact_length * most_facts;
 
 constexpr size_t house_kind_count = 33;
 constexpr size_t house_length = house_kind_count * house_kind_count;
+
+constexpr size_t longest_text = size_t{1} << 24;
+constexpr size_t deepest_term = 16;
 
 constexpr Byte kind_any = 1;
 constexpr Byte not_known = 255;

@@ -13,7 +13,8 @@
 namespace host {
 
 // The calls with nothing around them, for whoever measures them.
-inline constexpr paper::Calls library = {rig_open, rig_take, rig_ask, rig_write, rig_house};
+inline constexpr paper::Calls library = {rig_open,  rig_take,      rig_ask,       rig_write,
+                                         rig_house, rig_read_term, rig_write_term};
 
 constexpr std::uint64_t packed(std::uint64_t number, std::uint64_t third, std::uint64_t place)
 {
@@ -39,6 +40,11 @@ inline constexpr paper::Calls library_by_c = {
         return by_parts(rig_write(block, block_size, out, out_size));
     },
     [](std::uint8_t* table, std::size_t table_size) { return by_parts(rig_house(table, table_size)); },
+    [](const std::uint8_t* block, std::size_t block_size, const std::uint8_t* text, std::size_t text_size,
+       std::uint8_t* out,
+       std::size_t out_size) { return by_parts(rig_read_term(block, block_size, text, text_size, out, out_size)); },
+    [](const std::uint8_t* block, std::size_t block_size, std::uint64_t joint, std::uint8_t* out,
+       std::size_t out_size) { return by_parts(rig_write_term(block, block_size, joint, out, out_size)); },
 };
 
 // A session whose block is the lent one, for a block of the right size.
@@ -91,6 +97,21 @@ inline constexpr paper::Calls library_by_cpp = {
         const auto house = vornulica::house_table();
         std::copy_n(house.data(), house.size(), table);
         return packed(RIG_DONE, 0, 0);
+    },
+    [](const std::uint8_t* block, std::size_t block_size, const std::uint8_t* text, std::size_t text_size,
+       std::uint8_t* out, std::size_t out_size) {
+        if (block_size != RIG_BLOCK_SIZE)
+            return library_by_c.read_term(block, block_size, text, text_size, out, out_size);
+        const std::string_view view(reinterpret_cast<const char*>(text), text_size);
+        const auto answer = session_of(block).read_term(view, {out, out_size});
+        return by_session(answer, answer.size());
+    },
+    [](const std::uint8_t* block, std::size_t block_size, std::uint64_t joint, std::uint8_t* out,
+       std::size_t out_size) {
+        if (block_size != RIG_BLOCK_SIZE)
+            return library_by_c.write_term(block, block_size, joint, out, out_size);
+        const auto answer = session_of(block).write_term(vornulica::RigJoint(joint), {out, out_size});
+        return by_session(answer, answer.size());
     },
 };
 

@@ -1,5 +1,7 @@
 #include "reference.hpp"
 
+#include "reference_terms.hpp"
+
 #include <cstring>
 
 namespace paper {
@@ -801,21 +803,60 @@ template <Fault fault> struct Paper {
 
 }; // struct Paper
 
-template <Fault fault>
-constexpr Calls calls_of = {Paper<fault>::open, Paper<fault>::take, Paper<fault>::ask, Paper<fault>::write,
-                            Paper<fault>::house};
+// ------------------------------------------------------------------------ terms
+
+// A fault is either one of the calls of 01 or one of terms; what it does not concern is the paper's.
+template <Fault fault> struct TermCalls {
+
+    using Terms = terms::Terms<fault>;
+    using Sound = Paper<Fault::none>;
+
+    static uint64_t packed(const terms::Reply& reply) { return Reply{reply.number, reply.place, reply.third}.packed(); }
+
+    static uint64_t read(const Byte* block, size_t block_size, const Byte* text, size_t text_size, Byte* out,
+                         size_t out_size)
+    {
+        if (block_size != block_length || Terms::is_too_long(text_size))
+            return Reply{1}.packed();
+        const Reply block_reply = Sound::check_block(block);
+        if (block_reply.number != 0)
+            return block_reply.packed();
+        return packed(Terms::read(text, text_size, block[0], block[1], out, out_size));
+    }
+
+    static uint64_t write(const Byte* block, size_t block_size, uint64_t joint, Byte* out, size_t out_size)
+    {
+        if (block_size != block_length)
+            return Reply{1}.packed();
+        const Reply block_reply = Sound::check_block(block);
+        if (block_reply.number != 0)
+            return block_reply.packed();
+        const typename Terms::Rig rig = {block[1], block + classes_at, block + kinds_at, block + links_at};
+        return packed(Terms::write(rig, joint, out, out_size));
+    }
+
+}; // struct TermCalls
+
+template <Fault of_calls, Fault of_terms>
+constexpr Calls calls_of = {Paper<of_calls>::open,     Paper<of_calls>::take,  Paper<of_calls>::ask,
+                            Paper<of_calls>::write,    Paper<of_calls>::house, TermCalls<of_terms>::read,
+                            TermCalls<of_terms>::write};
 
 struct Variant {
     const char* name;
     const Calls* calls;
 };
 #if defined(PAPER_WITHOUT_FAULTS)
-#define PAPER_VARIANT(name) {#name, nullptr},
+#define PAPER_CALL_VARIANT(name) {#name, nullptr},
+#define PAPER_TERM_VARIANT(name) {#name, nullptr},
 #else
-#define PAPER_VARIANT(name) {#name, &calls_of<Fault::name>},
+#define PAPER_CALL_VARIANT(name) {#name, &calls_of<Fault::name, Fault::none>},
+#define PAPER_TERM_VARIANT(name) {#name, &calls_of<Fault::none, Fault::name>},
 #endif
-constexpr Variant variants[] = {{"none", &calls_of<Fault::none>}, PAPER_FAULTS(PAPER_VARIANT)};
-#undef PAPER_VARIANT
+constexpr Variant variants[] = {{"none", &calls_of<Fault::none, Fault::none>},
+                                PAPER_CALL_FAULTS(PAPER_CALL_VARIANT) PAPER_TERM_FAULTS(PAPER_TERM_VARIANT)};
+#undef PAPER_CALL_VARIANT
+#undef PAPER_TERM_VARIANT
 
 } // namespace
 
@@ -836,6 +877,18 @@ uint64_t write(const Byte* block, size_t block_size, Byte* out, size_t out_size)
     return Paper<Fault::none>::write(block, block_size, out, out_size);
 }
 uint64_t house(Byte* table, size_t table_size) { return Paper<Fault::none>::house(table, table_size); }
+uint64_t read_term(const Byte* block, size_t block_size, const Byte* text, size_t text_size, Byte* out, size_t out_size)
+{
+    return TermCalls<Fault::none>::read(block, block_size, text, text_size, out, out_size);
+}
+uint64_t read_typed(uint64_t n, uint64_t v, const Byte* text, size_t text_size, Byte* out, size_t out_size)
+{
+    return TermCalls<Fault::none>::packed(terms::Terms<Fault::none>::read(text, text_size, n, v, out, out_size));
+}
+uint64_t write_term(const Byte* block, size_t block_size, uint64_t joint, Byte* out, size_t out_size)
+{
+    return TermCalls<Fault::none>::write(block, block_size, joint, out, out_size);
+}
 
 const char* fault_name(Fault fault) { return variants[static_cast<size_t>(fault)].name; }
 const Calls& calls(Fault fault) { return *variants[static_cast<size_t>(fault)].calls; }

@@ -1,5 +1,5 @@
-// A plain C++ version of documents 01 and 02, as far as the orders of 02 have landed (order 1), written from the papers
-// alone, so that an agreement between it and the library says something about both.
+// A plain C++ version of documents 01 and 02, as far as the orders of 02 have landed (orders 1 and 2), written from the
+// papers alone, so that an agreement between it and the library says something about both.
 //
 // The same source can be compiled with one deliberate fault at a time. The faults exist to show that the tests around
 // this file would notice them.
@@ -20,19 +20,30 @@ std::uint64_t ask(const std::uint8_t* block, std::size_t block_size, const std::
                   std::size_t packet_size);
 std::uint64_t write(const std::uint8_t* block, std::size_t block_size, std::uint8_t* out, std::size_t out_size);
 std::uint64_t house(std::uint8_t* table, std::size_t table_size);
+std::uint64_t read_term(const std::uint8_t* block, std::size_t block_size, const std::uint8_t* text,
+                        std::size_t text_size, std::uint8_t* out, std::size_t out_size);
+std::uint64_t write_term(const std::uint8_t* block, std::size_t block_size, std::uint64_t joint, std::uint8_t* out,
+                         std::size_t out_size);
 
-// The five calls of one implementation: the library, the plain version, or the plain version with a fault.
+// What reading a term gives for a well-formed block of n kinds and v joints: nothing but the text is judged.
+std::uint64_t read_typed(std::uint64_t n, std::uint64_t v, const std::uint8_t* text, std::size_t text_size,
+                         std::uint8_t* out, std::size_t out_size);
+
+// The seven calls of one implementation: the library, the plain version, or the plain version with a fault.
 struct Calls {
     std::uint64_t (*open)(std::uint64_t, std::uint64_t, const std::uint8_t*, std::size_t, std::uint8_t*, std::size_t);
     std::uint64_t (*take)(std::uint8_t*, std::size_t, const std::uint8_t*, std::size_t);
     std::uint64_t (*ask)(const std::uint8_t*, std::size_t, const std::uint8_t*, std::size_t);
     std::uint64_t (*write)(const std::uint8_t*, std::size_t, std::uint8_t*, std::size_t);
     std::uint64_t (*house)(std::uint8_t*, std::size_t);
+    std::uint64_t (*read_term)(const std::uint8_t*, std::size_t, const std::uint8_t*, std::size_t, std::uint8_t*,
+                               std::size_t);
+    std::uint64_t (*write_term)(const std::uint8_t*, std::size_t, std::uint64_t, std::uint8_t*, std::size_t);
 };
 
-// X(name) for each fault. The first five are the errors listed in 01, the next five the stand-ins it wants rejected,
-// the others slips a reader might make.
-#define PAPER_FAULTS(X)            \
+// X(name) for each fault of the calls of 01. The first five are the errors listed in 01, the next five the stand-ins it
+// wants rejected, the others slips a reader might make.
+#define PAPER_CALL_FAULTS(X)       \
     X(joins_stop_at_links)         \
     X(unknown_link_rules_out)      \
     X(kinds_compared_for_equality) \
@@ -83,6 +94,57 @@ struct Calls {
     X(exact_output_refused)        \
     X(rest_of_output_cleared)      \
     X(house_meet_by_largest_number)
+
+// X(name) for each fault of reading and writing terms, slips all of them.
+#define PAPER_TERM_FAULTS(X)          \
+    X(term_17_deep_read)              \
+    X(term_16_deep_not_read)          \
+    X(deep_term_told_late)            \
+    X(four_digits_read)               \
+    X(three_digits_not_read)          \
+    X(leading_zero_read)              \
+    X(empty_brackets_read)            \
+    X(blanks_read)                    \
+    X(rest_of_text_ignored)           \
+    X(early_end_told_at_last_byte)    \
+    X(longer_text_read)               \
+    X(longest_text_not_read)          \
+    X(out_of_range_before_no_term)    \
+    X(out_of_range_at_sign)           \
+    X(last_out_of_range_told)         \
+    X(joint_v_read)                   \
+    X(kind_n_read)                    \
+    X(kind_0_out_of_range)            \
+    X(link_16_read)                   \
+    X(too_large_before_out_of_range)  \
+    X(term_of_1089_facts_read)        \
+    X(term_of_1088_facts_not_read)    \
+    X(short_output_before_too_large)  \
+    X(all_links_of_outermost)         \
+    X(link_behind_inner_facts)        \
+    X(kinds_behind_links)             \
+    X(exact_packet_refused)           \
+    X(rest_of_packet_cleared)         \
+    X(chosen_joint_cut_to_32_bits)    \
+    X(chosen_joint_cut_to_a_byte)     \
+    X(chosen_out_of_range_is_no_tree) \
+    X(joined_joints_left_out)         \
+    X(loop_at_chosen_left_out)        \
+    X(kind_not_reached_left_out)      \
+    X(link_not_reached_left_out)      \
+    X(lone_joint_refused)             \
+    X(two_walks_pass)                 \
+    X(second_link_to_a_joint_passes)  \
+    X(tree_17_deep_written)           \
+    X(tree_16_deep_not_written)       \
+    X(short_output_before_no_tree)    \
+    X(links_fall)                     \
+    X(kind_1_written_in_term)         \
+    X(kind_of_chosen_left_out)        \
+    X(exact_text_refused)             \
+    X(rest_of_text_cleared)
+
+#define PAPER_FAULTS(X) PAPER_CALL_FAULTS(X) PAPER_TERM_FAULTS(X)
 
 #define PAPER_FAULT_NAME(name) name,
 enum class Fault { none, PAPER_FAULTS(PAPER_FAULT_NAME) count };

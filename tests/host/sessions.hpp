@@ -8,6 +8,7 @@
 #include "calls.hpp"
 #include "implementation.hpp"
 #include "rules.hpp"
+#include "terms.hpp"
 
 namespace host {
 
@@ -28,6 +29,8 @@ public:
         const bool first = step++ == 0;
         if (course == Course::openings) {
             make_open(call, block, 85);
+        } else if (course == Course::typed) {
+            make_typed(call);
         } else if (first && course == Course::opened) {
             make_open(call, block, 0);
         } else {
@@ -43,13 +46,13 @@ public:
     }
 
 private:
-    // Opened here and carried on; begun with a block that somebody else wrote; or nothing but openings, most of them
-    // refused.
-    enum class Course { opened, foreign, openings };
+    // Opened here and carried on; begun with a block that somebody else wrote; nothing but openings, most of them
+    // refused; or terms read and written, each on a block of its own.
+    enum class Course { opened, foreign, openings, typed };
     static Course random_course(Random& random)
     {
         const size_t roll = random.below(100);
-        return roll < 80 ? Course::opened : roll < 90 ? Course::foreign : Course::openings;
+        return roll < 68 ? Course::opened : roll < 77 ? Course::foreign : roll < 86 ? Course::openings : Course::typed;
     }
 
     static void lend(Call& call, Slot slot, Bytes bytes)
@@ -78,17 +81,27 @@ private:
         } else if (roll < 42) {
             call.name = Name::take;
             lend(call, packet_slot, next_facts());
-        } else if (roll < 86) {
+        } else if (roll < 82) {
             call.name = Name::ask;
             lend(call, packet_slot, next_rule(block));
-        } else {
+        } else if (roll < 95) {
             call.name = Name::write;
             lend(call, out_slot, noise(next_output_length(block)));
+        } else if (roll < 97) {
+            make_read_term(call, block);
+        } else {
+            make_write_term(call, block, random.below(v));
         }
         if (call.name == Name::open || call.name == Name::house)
             return;
 
         call.goes_on = true;
+        lend_block(call, block);
+    }
+
+    // At times damaged or of another size: then the session does not go on with it.
+    void lend_block(Call& call, const Bytes& block)
+    {
         Bytes lent_block = block;
         if (random.chance(10)) {
             call.goes_on = false;
@@ -100,6 +113,76 @@ private:
             lent_block.resize(random.pick_of<size_t>({0, 1, 66, 5249, 5251, 8192}));
         }
         lend(call, block_slot, std::move(lent_block));
+    }
+
+    // ------------------------------------------------------------------------------------------------------ terms
+
+    void make_typed(Call& call)
+    {
+        const size_t roll = random.below(100);
+        Tree tree = roll < 15 && v >= 15 ? row_of(kinds, v, random.between(15, std::min<size_t>(v, 18)), random)
+                                         : random_tree(kinds, v, random);
+        if (roll >= 60)
+            for (size_t times = random.pick_of<size_t>({1, 1, 1, 2, 3}); times > 0; times--)
+                unmake_tree(tree, kinds, random);
+        if (random.chance(50))
+            make_read_term(call, tree.block);
+        else
+            make_write_term(call, tree.block, tree.root);
+        lend_block(call, tree.block);
+        call.goes_on = false;
+    }
+
+    void make_read_term(Call& call, const Bytes& block)
+    {
+        const std::string text = next_text(block);
+        Bytes packet(longest_solved_form);
+        const size_t needed =
+            Implementation(paper::calls(paper::Fault::none)).read_term(block, bytes_of(text), packet).third();
+        call.name = Name::read_term;
+        lend(call, text_slot, bytes_of(text));
+        lend(call, out_slot, noise(output_length(needed, longest_solved_form)));
+    }
+
+    // From this joint, at times from another one that there is or from one that there is not.
+    void make_write_term(Call& call, const Bytes& block, size_t joint)
+    {
+        call.name = Name::write_term;
+        call.joint = random.chance(85)   ? joint
+                     : random.chance(50) ? random.below(v)
+                     : random.chance(40) ? random.pick_of<std::uint64_t>({v, v + 1, 64, 255, 256 + joint})
+                                         : out_of_range(joint);
+        Bytes text(longest_solved_form);
+        const size_t needed =
+            Implementation(paper::calls(paper::Fault::none)).write_term(block, call.joint, text).third();
+        lend(call, out_slot, noise(output_length(needed, 800)));
+    }
+
+    std::string next_text(const Bytes& block)
+    {
+        const size_t roll = random.below(100);
+        TermShape shape{kinds.n, v};
+        shape.deepest = random.pick_of<size_t>({2, 4, 16, 16, 17, 18});
+        shape.most_arguments = shape.deepest > 4 ? 2 : random.between(1, 16);
+        shape.most_terms = random.pick_of<size_t>({3, 10, 40, 200});
+        shape.odd_numbers = random.pick_of<size_t>({0, 0, 0, 2, 20});
+        std::string text = roll < 10   ? deep_term(random.between(14, 18), random.chance(50) ? "" : ":1(1=>@0)")
+                           : roll < 20 ? term_of_facts(random.between(1086, 1091), random.chance(50), random.chance(50))
+                                       : random_term(shape, random);
+        if (roll >= 90) { // what the block says, if it can be written
+            Bytes written(800);
+            const Answer answer = Implementation(paper::calls(paper::Fault::none)).write_term(block, 0, written);
+            written.resize(answer.third());
+            text = text_of(written);
+        }
+        if (random.chance(20) && !text.empty() &&
+            text.back() == ')') // one number more, mostly out of range, at the end
+            text.insert(text.size() - 1, "," + std::to_string(random.pick_of<size_t>({0, 15, 16, 17})) + "=>@" +
+                                             std::to_string(random.pick_of<size_t>({0, v - 1, v, v + 1})) + ":" +
+                                             std::to_string(random.pick_of<size_t>({0, kinds.n - 1, kinds.n})));
+        for (size_t times = random.pick_of<size_t>({0, 0, 0, 1, 2}); times > 0; times--)
+            damage_text(text, random);
+        return text;
     }
 
     std::uint64_t out_of_range(size_t good)
@@ -216,8 +299,12 @@ private:
     {
         Bytes form(longest_solved_form);
         const size_t needed = Implementation(paper::calls(paper::Fault::none)).write(block, form).third();
-        return random.pick_of<size_t>({needed, needed, needed > 0 ? needed - 1 : 0, needed + 1, longest_solved_form,
-                                       longest_solved_form + 100, 0, 6, random.below(needed + 1)});
+        return output_length(needed, longest_solved_form);
+    }
+    size_t output_length(size_t needed, size_t longest)
+    {
+        return random.pick_of<size_t>({needed, needed, needed > 0 ? needed - 1 : 0, needed + 1, longest, longest + 100,
+                                       0, 6, random.below(needed + 1)});
     }
 
     Random random;

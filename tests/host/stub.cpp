@@ -44,3 +44,13 @@ std::uint64_t rig_write(const std::uint8_t* block, std::size_t block_size, std::
     return calls().write(block, block_size, out, out_size);
 }
 std::uint64_t rig_house(std::uint8_t* table, std::size_t table_size) { return calls().house(table, table_size); }
+std::uint64_t rig_read_term(const std::uint8_t* block, std::size_t block_size, const std::uint8_t* text,
+                            std::size_t text_size, std::uint8_t* out, std::size_t out_size)
+{
+    return calls().read_term(block, block_size, text, text_size, out, out_size);
+}
+std::uint64_t rig_write_term(const std::uint8_t* block, std::size_t block_size, std::uint64_t joint, std::uint8_t* out,
+                             std::size_t out_size)
+{
+    return calls().write_term(block, block_size, joint, out, out_size);
+}

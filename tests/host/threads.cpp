@@ -32,7 +32,8 @@ constexpr size_t threads_at_once = 4;
 
 // ------------------------------------------------------------------ recordings
 
-// A call with all that it gives and leaves when it is made on the main thread.
+// A call with all that it gives and leaves when it is made on the main thread. A text is not kept twice: what is left
+// of it has to be what was lent.
 struct Recorded {
     std::string what;
     Call call;
@@ -45,6 +46,7 @@ std::string mismatch(const Side& side, const Recorded& recorded)
     Outcome expected{recorded.answer, {}};
     for (size_t slot = 0; slot < slot_count; slot++)
         expected.left[slot] = recorded.left[slot].data();
+    expected.left[text_slot] = recorded.call.lent[text_slot].bytes.data();
     const std::string text = difference(recorded.call, side, expected);
     return text.empty() ? "" : recorded.what + "\n" + description(recorded.call) + text;
 }
@@ -163,6 +165,93 @@ void record_largest(Recorder& recorder)
     recorder.record("house", call_with(Name::house, {{table_slot, Bytes(house_length, 0xee)}}));
 }
 
+// ---------------------------------------------------------------------------------------------------- long texts
+
+// A term of just so many bytes and so deep: behind a row of terms one argument after the other, all alike but for the
+// first, which is longer where the length asks for it.
+std::string long_term(size_t size, size_t depth)
+{
+    const std::string argument = "1=>@0";
+    std::string before = "@0(";
+    for (size_t i = 2; i < depth; i++)
+        before += "1=>@0(";
+    const std::string behind(depth - 1, ')');
+    const size_t rest = size - before.size() - behind.size() - argument.size();
+    const size_t more = rest % (argument.size() + 1);
+    // Up to five bytes more.
+    static const char* const first[] = {"1=>@0", "10=>@0", "10=>@10", "1=>@0:10", "10=>@0:10", "10=>@10:10"};
+    std::string text = before + first[more];
+    while (text.size() + behind.size() < size)
+        text += "," + argument;
+    return text + behind;
+}
+
+// As long as a text may be, one byte longer, and refused for what stands at its end. What the stack must hold may not
+// grow with any of it.
+void record_long_texts(Recorder& recorder)
+{
+    Random random(8);
+    const Bytes block = fresh_block(family_kinds(16, random), most_joints);
+    const Bytes out(longest_solved_form, 0xee);
+    const auto read = [&](const std::string& what, const std::string& text, unsigned number, size_t place) {
+        recorder.record(what, read_term_with(block, bytes_of(text), out));
+        const Answer& answer = recorder.list.back().answer;
+        if (answer.number() != number || answer.place() != place) {
+            std::printf("%s: %s\n", what.c_str(), answer.text().c_str());
+            recorder.agreed = false;
+        }
+    };
+    const size_t flat = 2;
+    const auto last_joint = [](const std::string& text, size_t depth) { return text.size() - depth; };
+    std::string text = long_term(longest_text, flat);
+    read("a text of 2^24 bytes", text, 22, 0);
+    text.replace(last_joint(text, flat) - 11, 12, ",10=>@10:165"); // in the place of two arguments
+    read("a text of 2^24 bytes with a kind out of range at its end", text, 21, last_joint(text, flat) - 2);
+    text.resize(text.size() - 1);
+    read("a text of 2^24 - 1 bytes that ends early", text, 20, text.size());
+    read("a text of 2^24 + 1 bytes", long_term(longest_text + 1, flat), 1, 0);
+
+    text = long_term(longest_text, deepest_term);
+    read("a text of 2^24 bytes, 16 deep", text, 22, 0);
+    text.back() = ' ';
+    read("a text of 2^24 bytes, 16 deep, without its last bracket", text, 20, text.size() - 1);
+    text[last_joint(text, deepest_term)] = '(';
+    read("a text of 2^24 bytes, 16 deep, with a bracket for its last joint", text, 20, last_joint(text, deepest_term));
+    // Terms that are opened and never closed: the 17th is told, and nothing behind it is gone into.
+    text.clear();
+    while (text.size() < 100000)
+        text += "@0(1=>";
+    read("terms opened and never closed", text, 20, 15 * 6 + 2);
+}
+
+// The largest trees there are to write, and rigs with walks without end or without number, which are none.
+void record_trees(Recorder& recorder)
+{
+    Random random(64);
+    const Kinds kinds = family_kinds(64, random);
+    const auto write = [&](const char* what, const Bytes& block) {
+        recorder.record(what, write_term_with(block, 0, Bytes(1000, 0xee)));
+    };
+    Bytes rows = fresh_block(kinds, most_joints);
+    Bytes wide = rows, full = rows, doubling = rows;
+    for (size_t joint = 0; joint < most_joints; joint++) {
+        set_kind(rows, joint, 63);
+        if (joint > 0)
+            set_link(rows, joint % 15 == 1 ? 0 : joint - 1, joint % 15 == 1 ? 10 + joint / 15 : 15, joint);
+        if (joint > 0)
+            set_link(wide, (joint - 1) / 16, (joint - 1) % 16, joint);
+        for (size_t l = 0; l < links_per_joint; l++) {
+            set_link(full, joint, l, (joint + l) % most_joints);
+            if (joint + 1 < most_joints)
+                set_link(doubling, joint, l, joint + 1);
+        }
+    }
+    write("the longest term", rows);
+    write("sixteen links a joint", wide);
+    write("every link known", full);
+    write("sixteen times as many walks at each joint", doubling);
+}
+
 // A null pointer with length 0 is an empty slice, wherever it is given.
 void record_nulls(Recorder& recorder)
 {
@@ -186,6 +275,14 @@ void record_nulls(Recorder& recorder)
     recorder.record("write, null output", call_with(Name::write, {{block_slot, block}, {out_slot, none}}));
     recorder.record("write, both null", call_with(Name::write, {{block_slot, none}, {out_slot, none}}));
     recorder.record("house, null table", call_with(Name::house, {{table_slot, none}}));
+    const Bytes text = bytes_of("@0:9"), room(100, 0xee);
+    recorder.record("read_term, null block", read_term_with(none, text, room));
+    recorder.record("read_term, null text", read_term_with(block, none, room));
+    recorder.record("read_term, null output", read_term_with(block, text, none));
+    recorder.record("read_term, all null", read_term_with(none, none, none));
+    recorder.record("write_term, null block", write_term_with(none, 0, room));
+    recorder.record("write_term, null output", write_term_with(block, 0, none));
+    recorder.record("write_term, both null", write_term_with(none, 0, none));
 }
 
 // -------------------------------------------------------------------- threads
@@ -355,6 +452,8 @@ int main(int argc, char** argv)
 
     Recorder recorder;
     record_largest(recorder);
+    record_long_texts(recorder);
+    record_trees(recorder);
     record_nulls(recorder);
     record_sessions(recorder, sessions);
 

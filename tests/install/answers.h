@@ -1,8 +1,8 @@
-/* The examples of 01 through the calls of vornulica.h, in C. */
+/* The examples of 01 and 02 through the calls of vornulica.h, in C. */
 #ifndef ANSWERS_H
 #define ANSWERS_H
 
-/* How many answers are not those that 01 gives. */
+/* How many answers are not those that the papers give. */
 int wrong_answers(void);
 
 #endif

@@ -11,9 +11,11 @@ FUNCTION(rig_take, 102)
 FUNCTION(rig_ask, 103)
 FUNCTION(rig_write, 104)
 FUNCTION(rig_house, 105)
+FUNCTION(rig_read_term, 106)
+FUNCTION(rig_write_term, 107)
 
 int wrong_answers(void)
 {
     return WRONG(rig_open, 101) + WRONG(rig_take, 102) + WRONG(rig_ask, 103) + WRONG(rig_write, 104) +
-           WRONG(rig_house, 105);
+           WRONG(rig_house, 105) + WRONG(rig_read_term, 106) + WRONG(rig_write_term, 107);
 }

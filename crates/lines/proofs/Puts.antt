@@ -9,8 +9,9 @@ use native.Mathlib.Nat.{add-zero, add-suc, suc-add, sub-zero, zero-sub, suc-sub-
 use lib.ListN.{length, getD, take, drop, set, replicate, length-append}
 use lib.Seq.{sets, sets-eq, take-suc, take-length, take-append-seam, length-take-le}
 use Rattle.lines.specs.declared.Line.{Line}
-use Rattle.lines.specs.Text.{digit, blank, lineFeed, longestNumber, decimal, line, longestWord, room, holding, put}
-use Rattle.lines.proofs.Decimals.{one-digit, more-digits, length-digits}
+use Rattle.lines.specs.Text.{blank, lineFeed, line, longestWord, room, holding, put}
+use Rattle.decimals.specs.Decimal.{digit, longestNumber, decimal}
+use Rattle.decimals.proofs.Decimals.{one-digit, more-digits, length-digits}
 
 sets-append : (l : List ℕ) (i : ℕ) (a b : List ℕ) → sets (sets l i a) (i + length a) b ≡ sets l i (a ++ b)
 sets-append l i [] b = rw (add-zero i)

@@ -1,37 +1,20 @@
 -- One line a call: a word, then number, place, third. Each number stands in decimal behind a blank, and a line feed ends the line.
 -- Assumes nothing.
-use mathlib.Core.Bool.{cond}
 use mathlib.Core.List.{List, [], _∷_, _++_}
-use Prim.Native.Nat.{ℕ, zero, suc, _+_, _-_, _/_, _%_}
-use lib.Dec.{ltb}
+use Prim.Native.Nat.{ℕ, _+_, _-_}
 use lib.ListN.{length, replicate}
 use lib.Seq.{sets}
 use Rattle.replies.specs.declared.Reply.{Reply}
 use Rattle.replies.specs.Replies.{number, place, third}
+use Rattle.decimals.specs.Decimal.{decimal}
 use Rattle.lines.specs.declared.Line.{Line}
 
 -- in ASCII
-abbrev pub digit : ℕ → ℕ
-digit d = 48 + d
-
 abbrev pub blank : ℕ
 blank = 32
 
 abbrev pub lineFeed : ℕ
 lineFeed = 10
-
--- the digits of a number that has at most `most` of them: those of a tenth of it, then its last
-unfoldable pub digits : ℕ → ℕ → List ℕ
-digits zero x = []
-digits (suc most) x = cond (ltb x 10) (digit x ∷ []) (digits most (x / 10) ++ (digit (x % 10) ∷ []))
-
--- a number below 2^32 has at most ten
-abbrev pub longestNumber : ℕ
-longestNumber = 10
-
--- a number in decimal; read back it is the number, and no zero leads: `reads-back`, `no-leading-zero` in proofs/Decimals.antt
-abbrev pub decimal : ℕ → List ℕ
-decimal x = digits longestNumber x
 
 unfoldable pub line : List ℕ → ℕ → ℕ → ℕ → List ℕ
 line word number place third =

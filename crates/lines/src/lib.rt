@@ -3,8 +3,8 @@ ghost use mathlib.Core.Path.{_≡_};
 ghost use mathlib.Core.List.{[], _∷_};
 ghost use Prim.Native.Nat.{_+_, _<_, _≤_};
 ghost use lib.ListN.{length};
-ghost use Rattle.lines.specs.Text.{digit as Text·digit, decimal, line, lineOf};
-ghost use Rattle.lines.specs.Text.{blank, room, longestWord, longestNumber, holding, put};
+ghost use Rattle.decimals.specs.Decimal.{longestNumber, decimal};
+ghost use Rattle.lines.specs.Text.{line, lineOf, blank, room, longestWord, holding, put};
 use replies::Reply;
 
 const ROOM: usize = 40;
@@ -13,13 +13,6 @@ const ROOM: usize = 40;
 pub struct Line {
     pub bytes: [u8; ROOM],
     pub size: usize,
-}
-
-fn digit(x: u32) -> u8
-    requires { ⌜ x < 10 ⌝ }
-    ensures { λ r. ⌜ r ≡ Text·digit x ⌝ }
-{
-    b'0' + x as u8
 }
 
 impl Line {
@@ -63,9 +56,9 @@ impl Line {
         ensures { λ r. ⌜ r ≡ put self (decimal x) ⌝ }
     {
         if x < 10 {
-            return self.with_byte(digit(x));
+            return self.with_byte(decimals::digit(x));
         }
-        self.with_decimal(x / 10).with_byte(digit(x % 10))
+        self.with_decimal(x / 10).with_byte(decimals::digit(x % 10))
     }
 
     // A blank, then the number in decimal.

@@ -17,7 +17,11 @@ use Rattle.meaning.specs.declared.RigJoint.{RigJoint}
 use Rattle.meaning.specs.Picture.{Picture, Fact, Holds, All, rename}
 use Rattle.meaning.specs.Picture.Fact.{has-kind, same, leads}
 use Rattle.meaning.specs.Form.{Form, unknown, linksFrom, factsAt, factsFrom, factsOf, rigJoint, takenFacts}
-use Rattle.meaning.specs.Solving.{Models}
+use Rattle.meaning.specs.Solving.{Models, AllInRange}
+
+pub in-range-append : (n v : ℕ) (fs gs : List (Fact ℕ)) → AllInRange n v fs → AllInRange n v gs → AllInRange n v (fs ++ gs)
+in-range-append n v [] gs a b = b
+in-range-append n v (f ∷ fs) gs a b = (a .0, in-range-append n v fs gs (a .1) b)
 
 module _ {n : ℕ} {J : Type 0} (meet : ℕ → ℕ → ℕ) (P : Picture n) (σ : J → ℕ) where
   pub all-append : (fs gs : List (Fact J)) → All meet P σ fs → All meet P σ gs → All meet P σ (fs ++ gs)

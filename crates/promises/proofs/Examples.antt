@@ -1,12 +1,15 @@
--- The examples P1 to P12, as one list: each is shown where it is at home, and here put together, with opening before them.
+-- The examples P1 to P12, as one list: each is shown where it is at home, and here put together, with opening before them. Behind them the
+-- example of a rig typed as a term, by computing its text and its packet.
 -- Assumes nothing.
 use mathlib.Core.Path.{_≡_, refl, sym, ap, _∙_}
+use mathlib.Core.Logic.{_↔_}
 use mathlib.Core.Bool.{true}
 use mathlib.Core.List.{List, _++_}
 use Prim.Native.Nat.{ℕ, _≤_}
 use native.Mathlib.Omega.{arith}
 use lib.ListN.{length, drop}
 use borrow.Author.Tests.{eq-eqb}
+use Rattle.replies.specs.declared.Reply.{Reply}
 use Rattle.replies.specs.declared.Reply.the-variants.{Done}
 use Rattle.replies.specs.Replies.{refuses}
 use Rattle.house.specs.Meets.{houseTable}
@@ -20,9 +23,18 @@ use Rattle.opening.specs.Open.{sizesFit, openReply, openBlock}
 use Rattle.opening.proofs.Opening.{then-table, is-fresh}
 use Rattle.writing.specs.Write.{solvedForm, writeReply, writtenOutput}
 use Rattle.writing.proofs.Writing.{write-done}
-use Rattle.promises.specs.Examples.{Examples, opened, solvedF}
+use Rattle.decimals.specs.Decimal.{digits}
+use Rattle.terms.specs.Term.{textOf, termText, termTokens}
+use Rattle.terms.specs.Facts.{termFacts}
+use Rattle.terms.specs.Language.{Reading}
+use Rattle.term_reading.specs.Range.{rangeReply}
+use Rattle.term_reading.specs.ReadTerm.{ReadTerm, readTermRefusal, termPacket}
+use Rattle.term_reading.proofs.OneRead.{Readable, reads, reads-only}
+use Rattle.promises.specs.Examples.{Examples, opened, solvedF, TermExample, typedTerm, typedText, typedPacket}
+use Rattle.promises.specs.HostReplies.{Reads}
 use Rattle.promises.proofs.Readings.{reads-exactly}
 use Rattle.promises.proofs.ExampleBlock.{afterF, after-rig, after-good, factsAfter, after-taken}
+use Rattle.promises.proofs.TermPlaces.{opened-passes}
 use Rattle.promises.proofs.ExampleTake.{takes-F, takes-12}
 use Rattle.promises.proofs.ExampleAsk.{p6, p7, p8, p9, p10, p11}
 
@@ -87,3 +99,65 @@ examples =
       p11 = p11;
       p12 = takes-12;
     }
+
+-- the rig typed as a term
+typed-text : termText typedTerm ≡ typedText
+unfolding typedTerm typedText textOf termTokens digits
+typed-text = refl
+
+typed-size : length typedText ≡ 21
+unfolding typedText
+typed-size = refl
+
+typed-packet : termPacket 4 typedTerm ≡ typedPacket
+unfolding typedTerm typedPacket termFacts allBytes
+typed-packet = refl
+
+packet-size : length typedPacket ≡ 22
+unfolding typedPacket
+packet-size = refl
+
+-- it is in the language and in range
+typed-reads : Reading typedText typedTerm
+unfolding typedTerm
+typed-reads =
+    record {
+      spelled = sym typed-text;
+      fits = (omega arith, omega arith, (omega arith, (omega arith, omega arith), (omega arith, (omega arith, tt))));
+    }
+
+typed-in-range : rangeReply 33 4 0 (termTokens typedTerm) ≡ Done 0
+unfolding typedTerm termTokens rangeReply digits
+typed-in-range = refl
+
+typed-few : length (termFacts typedTerm) ≡ 4
+unfolding typedTerm termFacts
+typed-few = refl
+
+typed-passes : readTermRefusal opened typedText ≡ Done 0
+typed-passes = opened-passes typedText (omega (arith, typed-size))
+
+module _ (out : List ℕ) (room : 22 ≤ length out) where
+  typed-readable : Readable opened typedTerm out
+  typed-readable =
+      record { in-range = typed-in-range; few = omega (arith, typed-few); room = omega (arith, ap length typed-packet, packet-size) }
+
+  -- the packet and its size, as they were computed
+  replies-22 : Done (length (termPacket 4 typedTerm)) ≡ Done 22
+  replies-22 = ap Done (ap length typed-packet ∙ packet-size)
+
+  puts-packet : termPacket 4 typedTerm ++ drop (length (termPacket 4 typedTerm)) out ≡ typedPacket ++ drop 22 out
+  puts-packet = ap (λ (p : List ℕ). p ++ drop (length p) out) typed-packet ∙ ap (λ (k : ℕ). typedPacket ++ drop k out) packet-size
+
+  read-so : (r : Reply) (x : List ℕ) → ReadTerm opened typedText out r x ↔ (Reads r 0 0 22 × (x ≡ typedPacket ++ drop 22 out))
+  read-so r x = (
+    λ a.
+        let e = reads-only opened typedText out typed-passes typedTerm typed-reads typed-readable a in
+        (reads-exactly r (Done 22) .0 (e .0 ∙ replies-22), e .1 ∙ puts-packet),
+    λ e.
+        rw (reads-exactly r (Done 22) .1 (e .0) ∙ sym replies-22, e .1 ∙ sym puts-packet)
+        (reads opened typedText out typed-passes typedTerm typed-reads typed-readable),
+  )
+
+pub term-example : TermExample
+term-example = record { text = typed-text; size = typed-size; packet = typed-packet; reads = read-so }

@@ -20,6 +20,12 @@ use Rattle.asking.specs.Ask.{Ask}
 use Rattle.asking.proofs.OneAsk.{ask-one}
 use Rattle.writing.specs.Write.{writeReply}
 use Rattle.writing.proofs.Writing.{write-third}
+use Rattle.term_reading.specs.ReadTerm.{ReadTerm}
+use Rattle.term_reading.proofs.OneRead.{read-term-one}
+use Rattle.term_reading.proofs.ReadThird.{read-term-third}
+use Rattle.term_writing.specs.WriteTerm.{WriteTerm}
+use Rattle.term_writing.proofs.OneWrite.{write-term-one}
+use Rattle.term_writing.proofs.WrittenText.{write-term-third}
 use Rattle.vornulica.specs.House.{houseReply}
 use Rattle.vornulica.specs.Host.{HostNumber}
 use Rattle.vornulica.proofs.Thirds.{small, take-third, ask-third}
@@ -78,6 +84,17 @@ ask-number {r = r} s t = handed r (ask-third t) (s .told ∙ ap packed (ask-one 
 pub write-number : {x : ℕ} (b out : List ℕ) → x ≡ packed (writeReply b out) → Splits x (writeReply b out)
 write-number b out e = handed (writeReply b out) (write-third b out) e
 
+-- what `rig_read_term` hands the host, with the reply that the contract of reading allows
+pub read-term-number : {b text out after after' : List ℕ} {x : ℕ} {r : Reply} → HostNumber (λ r. ReadTerm b text out r after) x →
+    ReadTerm b text out r after' → Splits x r
+read-term-number {b} {text} {out} {r = r} s t = handed r (read-term-third t) (s .told ∙ ap packed (read-term-one b text out (s .allowed) t .0))
+
+-- what `rig_write_term` hands the host, with the reply that the contract of writing allows
+pub write-term-number : {b out after after' : List ℕ} {root x : ℕ} {r : Reply} → HostNumber (λ r. WriteTerm b root out r after) x →
+    WriteTerm b root out r after' → Splits x r
+write-term-number {b} {out} {root = root} {r = r} s t =
+    handed r (write-term-third t) (s .told ∙ ap packed (write-term-one b root out (s .allowed) t .0))
+
 -- what `rig_house` hands the host
 pub house-number : {x : ℕ} (buffer : List ℕ) → x ≡ packed (houseReply buffer) → Splits x (houseReply buffer)
 house-number buffer e = handed (houseReply buffer) (small (houseReply buffer) (by-size (eqb (length buffer) 1089))) e
@@ -92,6 +109,17 @@ house-number buffer e = handed (houseReply buffer) (small (houseReply buffer) (b
 pub take-number-one :
     {b p after after' : List ℕ} {x y : ℕ} → HostNumber (λ r. Take b p r after) x → HostNumber (λ r. Take b p r after') y → (x ≡ y) × (after ≡ after')
 take-number-one s t = let e = take-one (s .allowed) (t .allowed) in (s .told ∙ ap packed (e .0) ∙ sym (t .told), e .1)
+
+-- the same number, and the same output afterwards
+pub read-term-number-one : {b text out after after' : List ℕ} {x y : ℕ} → HostNumber (λ r. ReadTerm b text out r after) x →
+    HostNumber (λ r. ReadTerm b text out r after') y → (x ≡ y) × (after ≡ after')
+read-term-number-one {b} {text} {out} s t =
+    let e = read-term-one b text out (s .allowed) (t .allowed) in (s .told ∙ ap packed (e .0) ∙ sym (t .told), e .1)
+
+pub write-term-number-one : {b out after after' : List ℕ} {root x y : ℕ} → HostNumber (λ r. WriteTerm b root out r after) x →
+    HostNumber (λ r. WriteTerm b root out r after') y → (x ≡ y) × (after ≡ after')
+write-term-number-one {b} {out} {root = root} s t =
+    let e = write-term-one b root out (s .allowed) (t .allowed) in (s .told ∙ ap packed (e .0) ∙ sym (t .told), e .1)
 
 -- the same number
 pub ask-number-one : {b p : List ℕ} {x y : ℕ} → HostNumber (λ r. Ask b p r) x → HostNumber (λ r. Ask b p r) y → x ≡ y

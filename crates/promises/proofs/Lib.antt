@@ -12,7 +12,10 @@ pub mod Forced
 pub mod OneForm
 pub mod StandIns
 pub mod RoundTrip
+pub mod TermPackets
+pub mod TermTrip
 pub mod ExampleBlock
 pub mod ExampleTake
 pub mod ExampleAsk
+pub mod TermPlaces
 pub mod Examples

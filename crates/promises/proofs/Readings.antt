@@ -4,13 +4,13 @@ use mathlib.Core.Path.{_≡_, refl, sym, _∙_, ap}
 use mathlib.Core.Logic.{_↔_, _≢_}
 use mathlib.Core.Bool.{cond}
 use mathlib.Core.List.{List, [], _∷_}
-use Prim.Native.Nat.{ℕ, _-_, _<_}
+use Prim.Native.Nat.{ℕ, _<_}
 use native.Mathlib.Omega.{arith}
 use lib.Dec.{eqb}
-use lib.ListN.{getD}
 use borrow.Author.Tests.{ne-eqb}
 use Rattle.replies.specs.declared.Cause.{Cause}
-use Rattle.replies.specs.declared.Cause.the-variants.{BadSize, NoKind, LawBroken, BadBlock, BadLength, BadVersion, BadHeader, BadCount, BadPart, NotReached, Clash, ShortOutput}
+use Rattle.replies.specs.declared.Cause.the-variants.{BadSize, NoKind, LawBroken, BadBlock, BadLength, BadVersion, BadHeader, BadCount, BadPart}
+use Rattle.replies.specs.declared.Cause.the-variants.{NotReached, Clash, ShortOutput, NoTerm, OutOfRange, TooManyFacts, NoTree}
 use Rattle.replies.specs.declared.Reply.{Reply}
 use Rattle.replies.specs.declared.Reply.the-variants.{Done, Refused}
 use Rattle.replies.specs.Replies.{causeNumber, number, place, third}
@@ -30,21 +30,31 @@ cause-few BadPart = (omega arith, omega arith)
 cause-few NotReached = (omega arith, omega arith)
 cause-few Clash = (omega arith, omega arith)
 cause-few ShortOutput = (omega arith, omega arith)
+cause-few NoTerm = (omega arith, omega arith)
+cause-few OutOfRange = (omega arith, omega arith)
+cause-few TooManyFacts = (omega arith, omega arith)
+cause-few NoTree = (omega arith, omega arith)
 
 pub number-few : (r : Reply) → number r < 256
 number-few (Done t) = omega arith
 number-few (Refused c p) = cause-few c .1
 
--- the causes in the order of their numbers, from 1 on
+-- the causes in the order of their numbers
 causes : List Cause
 causes =
-    BadSize ∷ NoKind ∷ LawBroken ∷ BadBlock ∷ BadLength ∷ BadVersion ∷ BadHeader ∷ BadCount ∷ BadPart ∷ NotReached ∷ Clash ∷ ShortOutput ∷ []
+    BadSize ∷ NoKind ∷ LawBroken ∷ BadBlock ∷ BadLength ∷ BadVersion ∷ BadHeader ∷ BadCount ∷ BadPart ∷ NotReached ∷ Clash ∷ ShortOutput
+    ∷ NoTerm ∷ OutOfRange ∷ TooManyFacts ∷ NoTree ∷ []
+
+-- the first of the list with this number
+withNumber : List Cause → ℕ → Cause
+withNumber [] n = BadSize
+withNumber (c ∷ cs) n = cond (eqb n (causeNumber c)) c (withNumber cs n)
 
 causeOf : ℕ → Cause
-causeOf n = getD causes (n - 1) BadSize
+causeOf n = withNumber causes n
 
 cause-told : (c : Cause) → causeOf (causeNumber c) ≡ c
-unfolding causeOf causes
+unfolding causeOf withNumber causes
 cause-told BadSize = refl
 cause-told NoKind = refl
 cause-told LawBroken = refl
@@ -57,6 +67,10 @@ cause-told BadPart = refl
 cause-told NotReached = refl
 cause-told Clash = refl
 cause-told ShortOutput = refl
+cause-told NoTerm = refl
+cause-told OutOfRange = refl
+cause-told TooManyFacts = refl
+cause-told NoTree = refl
 
 -- the reply that is read so
 replyOf : ℕ → ℕ → ℕ → Reply

@@ -19,6 +19,7 @@ use Rattle.meaning.specs.declared.RigJoint.{RigJoint}
 use Rattle.meaning.specs.Picture.{Fact, rename}
 use Rattle.meaning.specs.Form.{Form, unknown, linksFrom, factsAt, factsFrom, rigJoint}
 use Rattle.meaning.specs.Solving.{Smallest, Well, AllInRange}
+use Rattle.meaning.proofs.Facts.{in-range-append}
 use Rattle.meaning.specs.Rig.{SameMeaning}
 use Rattle.packets.specs.Facts.{rigFacts}
 use Rattle.packets.proofs.FactsPacket.{written-says}
@@ -28,7 +29,7 @@ use Rattle.screening.proofs.Written.{written-well}
 use Rattle.joints.specs.Layout.{kindsOf, jointsOf, blockForm, taken, classCount}
 use Rattle.runs.specs.Runs.{within}
 use Rattle.blocks.specs.Layout.{blockSize, tableOf, rigOf, freshBlock}
-use Rattle.blocks.specs.WellFormed.{blockReply}
+use Rattle.blocks.specs.WellFormed.{blockReply, Stands}
 use Rattle.blocks.proofs.Shape.{GoodBlock, good-block, put-together, block-sized, block-done}
 use Rattle.blocks.proofs.Bytes.{same-rig}
 use Rattle.blocks.proofs.Fresh.{fresh-good, fresh-table, fresh-facts, fresh-classes}
@@ -43,10 +44,6 @@ use Rattle.writing.proofs.Writing.{taken-few}
 
 -- the facts of a well-formed form are in range
 module _ (n v : ℕ) where
-  range-append : (fs gs : List (Fact ℕ)) → AllInRange n v fs → AllInRange n v gs → AllInRange n v (fs ++ gs)
-  range-append [] gs a b = b
-  range-append (f ∷ fs) gs a b = (a .0, range-append fs gs (a .1) b)
-
   range-cond :
       (b : Bool) (fs gs : List (Fact ℕ)) → (b ≡ true → AllInRange n v fs) → (b ≡ false → AllInRange n v gs) → AllInRange n v (cond b fs gs)
   range-cond true fs gs f g = f refl
@@ -78,7 +75,7 @@ module _ (n v : ℕ) where
     unfolding factsFrom
     facts-in-range j zero h = tt
     facts-in-range j (suc count) h =
-        range-append (factsAt S j) (factsFrom S (suc j) count) (at-in-range j (omega arith)) (facts-in-range (suc j) count (omega arith))
+        in-range-append n v (factsAt S j) (factsFrom S (suc j) count) (at-in-range j (omega arith)) (facts-in-range (suc j) count (omega arith))
 
 -- the solved form of a good block
 module _ {b : List ℕ} (g : GoodBlock b) where
@@ -97,18 +94,27 @@ module _ {b : List ℕ} (g : GoodBlock b) where
   pub solved-form-says : rigFacts (solvedForm b) ≡ taken b
   solved-form-says = written-says (jointsOf b) (factsFrom (blockForm b) 0 (jointsOf b))
 
-  sized : Sized (kindsOf b) (tableOf b)
+  pub sized : Sized (kindsOf b) (tableOf b)
   sized = block-sized (g .well) (g .size)
 
   -- a fresh block with the same n, V and table
-  abbrev fresh : List ℕ
+  abbrev pub fresh : List ℕ
   fresh = freshBlock (kindsOf b) (jointsOf b) (tableOf b)
 
+  pub fresh-well : blockReply fresh ≡ Done 0
+  fresh-well = block-done (fresh-good (kindsOf b) (jointsOf b) (tableOf b) sized (g .well .v-high) (g .well .v-low) (g .well .passes))
+
+  -- the block is one of the fresh block's rig
+  pub stands-fresh : Stands (rigOf fresh) b
+  stands-fresh =
+      record {
+        size = g .size;
+        well = put-together b (g .well);
+        rig = same-rig b fresh refl (sym (fresh-table (kindsOf b) (jointsOf b) (tableOf b) sized (g .well .v-high))) refl;
+      }
+
   not-refused : takeRefusal fresh (solvedForm b) ≡ Done 0
-  not-refused =
-      packet-decides fresh (solvedForm b)
-      (ap refuses (block-done (fresh-good (kindsOf b) (jointsOf b) (tableOf b) sized (g .well .v-high) (g .well .v-low) (g .well .passes))))
-      ∙ solved-form-well
+  not-refused = packet-decides fresh (solvedForm b) (ap refuses fresh-well) ∙ solved-form-well
 
   -- a fresh block that takes the form has to satisfy the block's own taken facts
   same-facts : taken fresh ++ rigFacts (solvedForm b) ≡ taken b
@@ -119,16 +125,7 @@ module _ {b : List ℕ} (g : GoodBlock b) where
 
   -- and the block does
   after-fresh : After fresh (rigFacts (solvedForm b)) b
-  after-fresh =
-      record {
-        stands =
-            record {
-              size = g .size;
-              well = put-together b (g .well);
-              rig = same-rig b fresh refl (sym (fresh-table (kindsOf b) (jointsOf b) (tableOf b) sized (g .well .v-high))) refl;
-            };
-        means = means (sym same-facts);
-      }
+  after-fresh = record { stands = stands-fresh; means = means (sym same-facts) }
     where
       means : {fs : List (Fact RigJoint)} → taken b ≡ fs → SameMeaning (rigOf fresh) (taken b) fs
       means e = rw (← e) (λ P σ counts placed. (λ a. a, λ a. a))

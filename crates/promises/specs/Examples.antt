@@ -1,10 +1,10 @@
 -- The examples P1 to P12 as one list, and before it their packets, byte by byte: L in two bytes, version, purpose, ties, joint count, then the
--- ties (rule joint, rig joint) and the facts. House kinds, V = 4.
+-- ties (rule joint, rig joint) and the facts. House kinds, V = 4. Behind them the example of a rig typed as a term.
 -- Assumes nothing.
 use mathlib.Core.Path.{_≡_}
 use mathlib.Core.Logic.{_↔_}
 use mathlib.Core.List.{List, [], _∷_, _++_}
-use Prim.Native.Nat.{ℕ, _≤_}
+use Prim.Native.Nat.{ℕ, zero, suc, _≤_}
 use lib.ListN.{length, drop}
 use Rattle.replies.specs.declared.Reply.{Reply}
 use Rattle.kinds.specs.Kinds.{meetAt}
@@ -17,6 +17,11 @@ use Rattle.opening.specs.Open.{openReply, openBlock}
 use Rattle.taking.specs.Take.{Take}
 use Rattle.asking.specs.Ask.{Ask}
 use Rattle.writing.specs.Write.{solvedForm, writeReply, writtenOutput}
+use Rattle.terms.specs.Term.{Term, termText}
+use Rattle.terms.specs.Term.Written.{unwritten, written}
+use Rattle.terms.specs.Term.Term.{bare, bracketed}
+use Rattle.terms.specs.Term.Arguments.{one, more}
+use Rattle.term_reading.specs.ReadTerm.{ReadTerm, termPacket}
 use Rattle.promises.specs.HostReplies.{Reads}
 
 -- the facts F
@@ -154,3 +159,66 @@ pub record Examples : Type 0 where
   pub p11 : Asks after rule11 Waits
   -- F, then "2 has kind 3": 11 at that fact, block unchanged
   pub p12 : Takes after fact12 11 6 0 after
+
+-- a rig typed as a term: joint 0 has kind 11, its link 1 leads to joint 1, which has kind 16, and its link 2 to joint 3
+unfoldable pub typedTerm : Term
+typedTerm = bracketed 0 (written 11) (more 1 (bare 1 (written 16)) (one 2 (bare 3 unwritten)))
+
+-- `@0:11(1=>@1:16,2=>@3)`, in ASCII
+unfoldable pub typedText : List ℕ
+typedText =
+    -- `@0:11(`
+    64 ∷ 48 ∷ 58 ∷ 49 ∷ 49 ∷ 40
+    -- `1=>@1:16,`
+    ∷ 49 ∷ 61 ∷ 62 ∷ 64 ∷ 49 ∷ 58 ∷ 49 ∷ 54 ∷ 44
+    -- `2=>@3)`
+    ∷ 50 ∷ 61 ∷ 62 ∷ 64 ∷ 51 ∷ 41
+    ∷ []
+
+-- its facts for V = 4
+unfoldable pub typedPacket : List ℕ
+typedPacket =
+    0x00 ∷ 0x14 ∷ 0x01 ∷ 0x01 ∷ 0x00 ∷ 0x04
+    -- 0 has kind 11
+    ∷ 0x01 ∷ 0x00 ∷ 0x0B ∷ 0x00
+    -- 0.1 is 1
+    ∷ 0x03 ∷ 0x00 ∷ 0x01 ∷ 0x01
+    -- 1 has kind 16
+    ∷ 0x01 ∷ 0x01 ∷ 0x10 ∷ 0x00
+    -- 0.2 is 3
+    ∷ 0x03 ∷ 0x00 ∷ 0x02 ∷ 0x03
+    ∷ []
+
+pub record TermExample : Type 0 where
+  pub text : termText typedTerm ≡ typedText
+  pub size : length typedText ≡ 21
+  pub packet : termPacket 4 typedTerm ≡ typedPacket
+  -- read into any output which has room for the 22 bytes: the contract allows this, and nothing else
+  pub reads : (out : List ℕ) → 22 ≤ length out → (r : Reply) (x : List ℕ) →
+      ReadTerm opened typedText out r x ↔ (Reads r 0 0 22 × (x ≡ typedPacket ++ drop 22 out))
+
+-- reading the text gives 20 at this place, and leaves the output as it was: the contract allows this, and nothing else
+abbrev pub StopsAt : List ℕ → ℕ → Type 0
+StopsAt text p = (out : List ℕ) (r : Reply) (x : List ℕ) → ReadTerm opened text out r x ↔ (Reads r 20 p 0 × (x ≡ out))
+
+-- joint 0 in joint 0 in joint 0, by link 0 each, so many levels below the first term
+unfoldable pub nested : ℕ → Term
+nested zero = bare 0 unwritten
+nested (suc levels) = bracketed 0 unwritten (one 0 (nested levels))
+
+-- a text stops where nothing can continue it
+pub record TermPlaces : Type 0 where
+  -- the empty text at its end
+  pub empty : StopsAt [] 0
+  -- `@`, at its end
+  pub ended : StopsAt (64 ∷ []) 1
+  -- `@01`: no leading zero
+  pub leading : StopsAt (64 ∷ 48 ∷ 49 ∷ []) 2
+  -- `@1234`: three digits at most
+  pub four : StopsAt (64 ∷ 49 ∷ 50 ∷ 51 ∷ 52 ∷ []) 4
+  -- `@0()`: one argument at least
+  pub none : StopsAt (64 ∷ 48 ∷ 40 ∷ 41 ∷ []) 3
+  -- `@0@`: nothing behind the whole term
+  pub behind : StopsAt (64 ∷ 48 ∷ 64 ∷ []) 2
+  -- `@0(0=>@0(0=>..@0(0=>@0`, a 17th level: at the bracket of the 16th term
+  pub deep : StopsAt (termText (nested 16)) 92

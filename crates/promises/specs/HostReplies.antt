@@ -1,5 +1,5 @@
 -- Replies as the host reads them: the number, place and third number of a reply, how they stand in the one number that the host gets, and
--- the numbers that 'Replies' lists for each call, with 0 for done.
+-- the numbers listed for each call, with 0 for done.
 -- Assumes nothing.
 use mathlib.Core.Path.{_≡_}
 use mathlib.Core.Bool.{Bool, false, _||_}
@@ -38,6 +38,12 @@ askNumbers = 0 ∷ 1 ∷ 4 ∷ 5 ∷ 6 ∷ 7 ∷ 8 ∷ 9 ∷ 10 ∷ []
 
 abbrev pub writeNumbers : List ℕ
 writeNumbers = 0 ∷ 1 ∷ 4 ∷ 12 ∷ []
+
+abbrev pub readTermNumbers : List ℕ
+readTermNumbers = 0 ∷ 1 ∷ 4 ∷ 20 ∷ 21 ∷ 22 ∷ 12 ∷ []
+
+abbrev pub writeTermNumbers : List ℕ
+writeTermNumbers = 0 ∷ 1 ∷ 4 ∷ 21 ∷ 23 ∷ 12 ∷ []
 
 -- of the call that hands out the house table
 abbrev pub houseNumbers : List ℕ

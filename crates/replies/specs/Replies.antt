@@ -5,7 +5,7 @@ use mathlib.Core.Bool.{Bool, true, false, cond}
 use mathlib.Core.List.{List, [], _∷_}
 use Prim.Native.Nat.{ℕ, _+_, _*_, _^_}
 use Rattle.replies.specs.declared.Cause.{Cause}
-use Rattle.replies.specs.declared.Cause.the-variants.{BadSize, NoKind, LawBroken, BadBlock, BadLength, BadVersion, BadHeader, BadCount, BadPart, NotReached, Clash, ShortOutput}
+use Rattle.replies.specs.declared.Cause.the-variants.{BadSize, NoKind, LawBroken, BadBlock, BadLength, BadVersion, BadHeader, BadCount, BadPart, NotReached, Clash, ShortOutput, NoTerm, OutOfRange, TooManyFacts, NoTree}
 use Rattle.replies.specs.declared.Reply.{Reply}
 use Rattle.replies.specs.declared.Reply.the-variants.{Done, Refused}
 
@@ -22,6 +22,10 @@ causeNumber BadPart = 9
 causeNumber NotReached = 10
 causeNumber Clash = 11
 causeNumber ShortOutput = 12
+causeNumber NoTerm = 20
+causeNumber OutOfRange = 21
+causeNumber TooManyFacts = 22
+causeNumber NoTree = 23
 
 abbrev pub number : Reply → ℕ
 number (Done t) = 0

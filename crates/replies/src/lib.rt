@@ -30,6 +30,14 @@ pub enum Cause {
     Clash,
     // 12: the output is shorter than what is to be written.
     ShortOutput,
+    // 20: the text is no term, at the first offset where nothing can continue it.
+    NoTerm,
+    // 21: a number of a text out of range, at its first digit; or the joint chosen.
+    OutOfRange,
+    // 22: the term says more facts than a packet holds.
+    TooManyFacts,
+    // 23: the rig is no tree from the chosen joint.
+    NoTree,
 }
 
 pub enum Reply {
@@ -56,6 +64,10 @@ pub fn cause_number(c: Cause) -> u8
         Cause::NotReached => 10,
         Cause::Clash => 11,
         Cause::ShortOutput => 12,
+        Cause::NoTerm => 20,
+        Cause::OutOfRange => 21,
+        Cause::TooManyFacts => 22,
+        Cause::NoTree => 23,
     }
 }
 

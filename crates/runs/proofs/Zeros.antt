@@ -10,7 +10,7 @@ use lib.ListN.{length, getD, replicate}
 use borrow.Author.Tests.{eqb-true, eq-eqb}
 use Rattle.runs.specs.Runs.{allZero}
 
-both : (a b : Bool) → (a && b) ≡ true → (a ≡ true) × (b ≡ true)
+pub both : (a b : Bool) → (a && b) ≡ true → (a ≡ true) × (b ≡ true)
 both true b e = (refl, e)
 both false b e = absurd (false≢true e)
 

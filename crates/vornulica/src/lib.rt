@@ -6,6 +6,8 @@ ghost use Rattle.opening.specs.Open.{openReply, openBlock};
 ghost use Rattle.taking.specs.Take.{Take};
 ghost use Rattle.asking.specs.Ask.{Ask};
 ghost use Rattle.writing.specs.Write.{writeReply, writtenOutput};
+ghost use Rattle.term_reading.specs.ReadTerm.{ReadTerm};
+ghost use Rattle.term_writing.specs.WriteTerm.{WriteTerm};
 ghost use Rattle.vornulica.specs.House.{houseReply, houseBuffer};
 ghost use Rattle.vornulica.specs.Host.{HostNumber};
 use replies::Cause;
@@ -41,6 +43,22 @@ pub extern "C" fn rig_write(block: &[u8], out: &mut [u8]) -> u64
     ensures { λ r. ⌜ (r ≡ packed (writeReply (now (block .entry)) (now (out .entry)))) × (now (out .exit) ≡ writtenOutput (now (block .entry)) (now (out .entry))) ⌝ }
 {
     replies::to_host(writing::write(block, out))
+}
+
+// Reads a rig typed as a term into a facts packet for the session.
+#[no_mangle]
+pub extern "C" fn rig_read_term(block: &[u8], text: &[u8], out: &mut [u8]) -> u64
+    ensures { λ r. ⌜ HostNumber (λ reply. ReadTerm (now (block .entry)) (now (text .entry)) (now (out .entry)) reply (now (out .exit))) r ⌝ }
+{
+    replies::to_host(term_reading::read(block, text, out))
+}
+
+// Writes the rig as a term from a chosen joint.
+#[no_mangle]
+pub extern "C" fn rig_write_term(block: &[u8], joint: u64, out: &mut [u8]) -> u64
+    ensures { λ r. ⌜ HostNumber (λ reply. WriteTerm (now (block .entry)) joint (now (out .entry)) reply (now (out .exit))) r ⌝ }
+{
+    replies::to_host(term_writing::write_term(block, joint, out))
 }
 
 // Writes the house table, 33 × 33 bytes.

@@ -16,7 +16,7 @@ use replies::Reply;
 const MOST: usize = 4358;
 
 // The four bytes of a fact, put at a place; the place behind them.
-fn put(to: &mut [u8], at: usize, tag: u8, a: u8, x: u8, y: u8) -> usize
+pub fn put(to: &mut [u8], at: usize, tag: u8, a: u8, x: u8, y: u8) -> usize
     requires { ⌜ at + 4 ≤ length (now to) ⌝ }
     ensures { λ r. ⌜ Put (tag ∷ a ∷ x ∷ y ∷ []) at (now (to .entry)) (now (to .exit)) r ⌝ }
 {
@@ -131,7 +131,7 @@ fn put_joints(to: &mut [u8], at: usize, block: &[u8], v: usize) -> usize
 }
 
 // The first six bytes of a facts packet for v joints whose L is given.
-fn put_header(to: &mut [u8], l: usize, v: u8)
+pub fn put_header(to: &mut [u8], l: usize, v: u8)
     requires { ⌜ (6 ≤ length (now to)) × (l < 65536) ⌝ }
     ensures { λ _. ⌜ now (to .exit) ≡ l / 256 ∷ l % 256 ∷ 1 ∷ 1 ∷ 0 ∷ v ∷ drop 6 (now (to .entry)) ⌝ }
 {

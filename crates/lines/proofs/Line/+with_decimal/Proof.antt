@@ -7,13 +7,13 @@ use native.Mathlib.Nat.{mod-lt, div-add-mod'}
 use borrow.Fn.Kinds.{In}
 use borrow.Fn.PlainCycle.{Measures, is, falls, and}
 use Rattle.lines.specs.declared.Line.{Line}
-use Rattle.lines.proofs.Decimals.{length-one, length-more}
+use Rattle.decimals.proofs.Decimals.{length-one, length-more}
 use Rattle.lines.proofs.Puts.{one-put, last-put}
 use Rattle.lines.proofs.Line.with_decimal.Reads as with-decimal
 use Rattle.lines.proofs.Line.with_decimal.Kinds as with-decimal-kinds
 use Rattle.lines.proofs.Line.+with_decimal.Lts-with_decimal as lts
 use Rattle.lines.proofs.Line.with_byte.Reads as with-byte-reads
-use Rattle.lines.proofs.digit.Reads as digit-reads
+use Rattle.decimals.proofs.digit.Reads as digit-reads
 use Rattle.lines.proofs.Line.+with_decimal.{statement}
 use Rattle.lines.proofs.Line.+with_decimal.Tie.{close}
 

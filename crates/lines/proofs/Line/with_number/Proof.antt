@@ -4,8 +4,9 @@ use mathlib.Core.Path.{_∙_}
 use mathlib.Core.List.{[], _∷_}
 use native.Mathlib.Omega.{arith}
 use borrow.Author.Needs.{needs}
-use Rattle.lines.specs.Text.{blank, longestNumber, decimal}
-use Rattle.lines.proofs.Decimals.{length-digits}
+use Rattle.decimals.specs.Decimal.{longestNumber, decimal}
+use Rattle.lines.specs.Text.{blank}
+use Rattle.decimals.proofs.Decimals.{length-digits}
 use Rattle.lines.proofs.Puts.{size-of, put-put}
 use Rattle.lines.proofs.Line.with_number.Statement.{statement}
 use Rattle.lines.proofs.Line.with_number.Tie as tie

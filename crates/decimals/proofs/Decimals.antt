@@ -10,7 +10,7 @@ use native.Mathlib.Decide.{decLt}
 use native.Mathlib.Nat.{div-add-mod', mod-lt, pow-suc}
 use lib.ListN.{length, getD, length-append, List·getD-append}
 use borrow.Author.Tests.{lt-ltb, le-ltb}
-use Rattle.lines.specs.Text.{digit, digits, decimal}
+use Rattle.decimals.specs.Decimal.{digit, digits, decimal}
 
 tenth-below : (k x : ℕ) → x < 10 ^ suc k → x / 10 < 10 ^ k
 tenth-below k x h = omega (arith, div-add-mod' x 10, pow-suc 10 k)

@@ -1,0 +1,10 @@
+pub mod Segments
+pub mod Facts
+pub mod Numbers
+pub mod Contexts
+pub mod Terms
+pub mod Steps
+pub mod InRange
+pub mod Answers
+pub mod OneRead
+pub mod ReadThird

@@ -1,0 +1,16 @@
+-- The two halves of the test.
+-- Assumes nothing.
+use borrow.Author.Tests.{le-leb, lt-leb}
+use Rattle.term_reading.proofs.is_digit.Statement.{statement}
+use Rattle.term_reading.proofs.is_digit.Tie as tie
+use Rattle.term_reading.proofs.is_digit.Reads as reads
+use Rattle.term_reading.proofs.is_digit.Lts as lts
+
+returns : tie.Need-returns
+returns c = rw (le-leb 48 (c .before .args .b) (c .if1 .taken))
+
+returns-2 : tie.Need-returns-2
+returns-2 c = rw (lt-leb 48 (c .before .args .b) (c .if1 .left))
+
+pub is-digit-spec : {M : Type 1} → statement M
+is-digit-spec = tie.close (tie.spec returns returns-2)

@@ -1,0 +1,33 @@
+-- No fact, or one link fact.
+-- Assumes nothing.
+use borrow.Author.Needs.{needs}
+use Rattle.term_reading.proofs.Facts.{lead-none, lead-fact}
+use Rattle.term_reading.proofs.put_lead.Statement.{statement}
+use Rattle.term_reading.proofs.put_lead.Tie as tie
+use Rattle.term_reading.proofs.put_lead.Reads as reads
+use Rattle.term_reading.proofs.put_lead.Lts as lts
+use Rattle.term_reading.proofs.put_fact.Reads as put-fact-reads
+
+enum-told : tie.Need-enum-told
+enum-told c = search needs
+
+enum-known-lead : tie.Need-enum-known-lead
+enum-known-lead c = search needs
+
+put-fact-requires : tie.Need-put-fact-requires
+put-fact-requires c κs = search needs
+
+returns : tie.Need-returns
+returns c =
+    let s = c .before .before .before in
+    lead-none (s .args .joint) (s .args .i) (s .args .to .now) (c .enum-told .given .1)
+
+same-length : tie.Need-same-length
+same-length c = search needs
+
+returns-2 : tie.Need-returns-2
+returns-2 c = lead-fact _ _ _ (c .before .before .before .before .before .lead .given .1) (c .before .before .put-fact .ensures)
+
+pub put-lead-spec : {M : Type 1} → statement M
+put-lead-spec =
+    tie.close (tie.spec enum-told enum-known-lead put-fact-requires returns same-length returns-2)

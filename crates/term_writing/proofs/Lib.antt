@@ -1,0 +1,15 @@
+pub mod Texts
+pub mod Visits
+pub mod Trees
+pub mod Answers
+pub mod Steps
+pub mod Writes
+pub mod OneWrite
+pub mod Distinct
+pub mod Walks
+pub mod LinkTerms
+pub mod RowFacts
+pub mod TermFacts
+pub mod TreeFacts
+pub mod TextLength
+pub mod WrittenText

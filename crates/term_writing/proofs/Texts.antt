@@ -1,0 +1,227 @@
+-- The text of a term, taken apart as it is put: its head, then for each known link a sign, the link and the term there, then the bracket
+-- that closes if there was any. Where the sign in front is told by whether the text has grown since the head, it is the right one.
+-- Assumes nothing.
+use mathlib.Core.Path.{_≡_, refl, sym, ap, _∙_}
+use mathlib.Core.Logic.{by-cases}
+use mathlib.Core.Bool.{Bool, true, false, cond}
+use mathlib.Core.List.{List, [], _∷_, _++_, append-assoc, append-nil}
+use Prim.Native.Nat.{ℕ, zero, suc, _+_, _/_, _%_, _<_, _≤_}
+use native.Mathlib.Omega.{arith}
+use native.Mathlib.Decide.{decLt, ℕ-discrete}
+use native.Mathlib.Nat.{div-add-mod'}
+use lib.Dec.{eqb}
+use lib.ListN.{length, set, take, drop, length-append, length-take, length-set}
+use lib.Seq.{sets-eq, take-at, drop-at}
+use borrow.Author.Tests.{eq-eqb, ne-eqb}
+use Rattle.decimals.specs.Decimal.{digit, decimal}
+use Rattle.decimals.proofs.Decimals.{one-digit, more-digits}
+use Rattle.meaning.specs.Form.{Form, unknown}
+use Rattle.terms.specs.Term.{Term, Token, headTokens, termTokens, argumentTokens, spell, textOf, termText, at-sign, colon, opening, closing, comma, equals, greater}
+use Rattle.terms.specs.Term.Token.{sign}
+use Rattle.writing.specs.Putting.{Room, Put}
+use Rattle.writing.proofs.Putting.{put-begins, put-goes-on, put-ends}
+use Rattle.term_writing.specs.Tree.{kindWritten, listed, termWith, linkTerms, termFrom}
+use Rattle.term_writing.specs.Visiting.{kindText, headText, linkText, furtherText, argumentsText, argumentText, signBefore, closingText}
+
+-- one byte, and two parts, one behind the other
+pub byte-put : (s : List ℕ) (at x : ℕ) → at + 1 ≤ length s → Put (x ∷ []) at s (set s at x) (at + 1)
+byte-put s at x h =
+    let e : set s at x ≡ (take at s ++ (x ∷ [])) ++ drop (at + 1) s = sets-eq (x ∷ []) s at h in
+    let long : length (take at s ++ (x ∷ [])) ≡ at + 1 = simp (length-append, length-take) (omega arith) in
+    record {
+      size = simp length-set;
+      ends = refl;
+      front = ap (take (at + 1)) e ∙ take-at (take at s ++ (x ∷ [])) (drop (at + 1) s) (at + 1) long;
+      behind = ap (drop (at + 1)) e ∙ drop-at (take at s ++ (x ∷ [])) (drop (at + 1) s) (at + 1) long;
+    }
+
+pub room-first : (xs ys : List ℕ) (at : ℕ) (s : List ℕ) → Room (xs ++ ys) at s → Room xs at s
+room-first xs ys at s r = omega (arith, length-append xs ys)
+
+module _ {xs : List ℕ} {at mid : ℕ} {s t : List ℕ} (p : Put xs at s t mid) where
+  pub both-put : {ys u : List ℕ} {end : ℕ} → Put ys mid t u end → Put (xs ++ ys) at s u end
+  both-put {ys} q = put-ends (put-goes-on (put-goes-on (put-begins at s refl) ys refl p) [] (sym (append-nil ys)) q) refl
+
+  -- what comes next has room
+  pub room-next : (ys : List ℕ) → Room (xs ++ ys) at s → Room ys mid t
+  room-next ys r = omega (arith, p .size, p .ends, length-append xs ys)
+
+  pub room-between : (ys zs : List ℕ) → Room (xs ++ (ys ++ zs)) at s → Room ys mid t
+  room-between ys zs r = room-first ys zs mid t (room-next (ys ++ zs) r)
+
+-- the same text, said otherwise
+pub put-as : {xs ys : List ℕ} {at end : ℕ} {s t : List ℕ} → xs ≡ ys → Put xs at s t end → Put ys at s t end
+put-as e p = rw e at p
+
+pub room-as : {xs ys : List ℕ} (at : ℕ) (s : List ℕ) → xs ≡ ys → Room ys at s → Room xs at s
+room-as at s e r = omega (arith, ap length e)
+
+-- a number of two digits
+pub two-digits : (x : ℕ) → 10 ≤ x → x < 100 → decimal x ≡ digit (x / 10) ∷ digit (x % 10) ∷ []
+two-digits x h g =
+    let tenth : x / 10 < 10 = omega (arith, div-add-mod' x 10) in
+    more-digits x h (omega arith) ∙ ap (λ (ds : List ℕ). ds ++ (digit (x % 10) ∷ [])) (one-digit (x / 10) tenth)
+
+module _ {x at : ℕ} {s t : List ℕ} where
+  pub one-digit-put : {d end : ℕ} → x < 10 → d ≡ digit x → Put (d ∷ []) at s t end → Put (decimal x) at s t end
+  one-digit-put h e p = put-as (ap (λ (b : ℕ). b ∷ []) e ∙ sym (one-digit x h)) p
+
+  pub two-digits-put :
+      {a b mid end : ℕ} {u : List ℕ} → 10 ≤ x → x < 100 → a ≡ digit (x / 10) → b ≡ digit (x % 10) →
+      Put (a ∷ []) at s t mid → Put (b ∷ []) mid t u end → Put (decimal x) at s u end
+  two-digits-put {a} h g e f p q =
+      put-as (ap (λ (y : ℕ). a ∷ y ∷ []) f ∙ ap (λ (y : ℕ). y ∷ digit (x % 10) ∷ []) e ∙ sym (two-digits x h g)) (both-put p q)
+
+pub number-short : (x : ℕ) → x < 100 → length (decimal x) ≤ 2
+number-short x g =
+    by-cases (decLt x 10) (λ h. rw (one-digit x h) (omega arith)) (λ h. rw (two-digits x (omega arith) g) (omega arith))
+
+pub kind-left-out : (s : ℕ) → s ≡ 1 → [] ≡ kindText s
+kind-left-out s e = rw (eq-eqb s 1 e)
+
+pub kind-said : (s : ℕ) → (s ≡ 1 → ⊥) → colon ∷ decimal s ≡ kindText s
+kind-said s d = rw (ne-eqb s 1 d)
+
+pub no-closing : (from at : ℕ) → at ≡ from → [] ≡ closingText from at
+no-closing from at e = rw (eq-eqb at from e)
+
+pub some-closing : (from at : ℕ) → (at ≡ from → ⊥) → closing ∷ [] ≡ closingText from at
+some-closing from at d = rw (ne-eqb at from d)
+
+kind-short : (s : ℕ) → s < 100 → length (kindText s) ≤ 3
+kind-short s g =
+    by-cases (ℕ-discrete s 1)
+    (λ e. rw (← kind-left-out s e) (omega arith))
+    (λ d. rw (← kind-said s d) (omega (arith, number-short s g)))
+
+pub head-short : (j s : ℕ) → j < 100 → s < 100 → length (headText j s) ≤ 6
+head-short j s hj hs = omega (arith, length-append (decimal j) (kindText s), number-short j hj, kind-short s hs)
+
+pub link-short : (front l : ℕ) → l < 100 → length (linkText front l) ≤ 5
+link-short front l h = omega (arith, length-append (decimal l) (equals ∷ greater ∷ []), number-short l h)
+
+-- one argument more, behind another
+further-more :
+    (ps : List (ℕ × Term)) (l : ℕ) (t : Term) →
+    furtherText (ps ++ ((l, t) ∷ [])) ≡ furtherText ps ++ (linkText comma l ++ termText t)
+unfolding furtherText
+further-more [] l t = ap (λ (x : List ℕ). linkText comma l ++ x) (append-nil (termText t))
+further-more (p ∷ ps) l t =
+    let link = linkText comma (p .0) in
+    let term = termText (p .1) in
+    let next = linkText comma l ++ termText t in
+    ap (λ (x : List ℕ). link ++ (term ++ x)) (further-more ps l t)
+    ∙ ap (λ (x : List ℕ). link ++ x) (sym (append-assoc term (furtherText ps) next))
+    ∙ sym (append-assoc link (term ++ furtherText ps) next)
+
+-- the text has grown exactly where there is an argument
+module _ (from at : ℕ) where
+  argument-behind :
+      (ps : List (ℕ × Term)) → at ≡ from + length (argumentsText ps) → (l : ℕ) (t : Term) →
+      argumentsText (ps ++ ((l, t) ∷ [])) ≡ argumentsText ps ++ (linkText (signBefore from at) l ++ termText t)
+  unfolding argumentsText furtherText
+  argument-behind [] e l t = rw (eq-eqb at from (omega (arith, e))) (ap (λ (x : List ℕ). linkText opening l ++ x) (append-nil (termText t)))
+  argument-behind (p ∷ ps) e l t =
+      let link = linkText opening (p .0) in
+      let term = termText (p .1) in
+      let next = linkText comma l ++ termText t in
+      rw (ne-eqb at from (λ q. omega (arith, e, q)))
+      (ap (λ (x : List ℕ). link ++ (term ++ x)) (further-more ps l t)
+      ∙ ap (λ (x : List ℕ). link ++ x) (sym (append-assoc term (furtherText ps) next))
+      ∙ sym (append-assoc link (term ++ furtherText ps) next))
+
+text-append : (front back : List Token) → textOf (front ++ back) ≡ textOf front ++ textOf back
+unfolding textOf
+text-append [] back = refl
+text-append (k ∷ front) back = ap (λ (x : List ℕ). spell k ++ x) (text-append front back) ∙ sym (append-assoc (spell k) (textOf front) (textOf back))
+
+head-text : (j s : ℕ) → textOf (headTokens j (kindWritten s)) ≡ headText j s
+unfolding textOf
+head-text j s =
+    by-cases (ℕ-discrete s 1)
+    (λ e. rw (eq-eqb s 1 e))
+    (λ d. rw (ne-eqb s 1 d) (ap (λ (x : List ℕ). at-sign ∷ (decimal j ++ (colon ∷ x))) (append-nil (decimal s))))
+
+-- a sign, and arguments behind it
+listed-text :
+    (front l : ℕ) (t : Term) (others : List (ℕ × Term)) →
+    front ∷ textOf (argumentTokens (listed l t others)) ≡ linkText front l ++ (termText t ++ furtherText others)
+unfolding textOf argumentTokens furtherText
+listed-text front l t [] =
+    ap (λ (x : List ℕ). front ∷ x)
+    (sym (append-assoc (decimal l) (equals ∷ greater ∷ []) (termText t))
+    ∙ ap (λ (x : List ℕ). (decimal l ++ (equals ∷ greater ∷ [])) ++ x) (sym (append-nil (termText t))))
+listed-text front l t (next ∷ others) =
+    ap (λ (x : List ℕ). front ∷ x)
+    (ap (λ (x : List ℕ). decimal l ++ (equals ∷ greater ∷ x))
+    (text-append (termTokens t) (sign comma ∷ argumentTokens (listed (next .0) (next .1) others))
+    ∙ ap (λ (x : List ℕ). termText t ++ x) (listed-text comma (next .0) (next .1) others))
+    ∙ sym (append-assoc (decimal l) (equals ∷ greater ∷ []) (termText t ++ furtherText (next ∷ others))))
+
+-- a whole term
+pub term-text :
+    (j s : ℕ) (ps : List (ℕ × Term)) (from at : ℕ) → at ≡ from + length (argumentsText ps) →
+    headText j s ++ (argumentsText ps ++ closingText from at) ≡ termText (termWith j (kindWritten s) ps)
+unfolding termTokens textOf argumentsText
+term-text j s [] from at e = rw (eq-eqb at from (omega (arith, e))) (append-nil (headText j s) ∙ sym (head-text j s))
+term-text j s (p ∷ ps) from at e =
+    let head = headTokens j (kindWritten s) in
+    let inner = argumentTokens (listed (p .0) (p .1) ps) in
+    rw (ne-eqb at from (λ q. omega (arith, e, q)))
+    (sym
+    (text-append (head ++ (sign opening ∷ inner)) (sign closing ∷ [])
+    ∙ ap (λ (x : List ℕ). x ++ (closing ∷ []))
+    (text-append head (sign opening ∷ inner)
+    ∙ ap (λ (x : List ℕ). x ++ textOf (sign opening ∷ inner)) (head-text j s)
+    ∙ ap (λ (x : List ℕ). headText j s ++ x) (listed-text opening (p .0) (p .1) ps))
+    ∙ append-assoc (headText j s) (linkText opening (p .0) ++ (termText (p .1) ++ furtherText ps)) (closing ∷ [])))
+
+-- an argument that a test may leave out, in front of two lists
+maybe :
+    (out : Bool) (p : ℕ × Term) (front back : List (ℕ × Term)) {rest : List (ℕ × Term)} → rest ≡ front ++ back →
+    cond out rest (p ∷ rest) ≡ cond out front (p ∷ front) ++ back
+maybe true p front back e = e
+maybe false p front back e = ap (λ (x : List (ℕ × Term)). p ∷ x) e
+
+module _ (S : Form) (termOf : ℕ → Term) (j : ℕ) where
+  terms-split : (l a b : ℕ) → linkTerms S termOf j l (a + b) ≡ linkTerms S termOf j l a ++ linkTerms S termOf j (l + a) b
+  unfolding linkTerms
+  terms-split l zero b =
+      let s : l ≡ l + 0 = omega arith in
+      let e : 0 + b ≡ b = omega arith in
+      ap (linkTerms S termOf j l) e ∙ ap (λ (k : ℕ). linkTerms S termOf j k b) s
+  terms-split l (suc a) b =
+      let e : suc a + b ≡ suc (a + b) = omega arith in
+      let s : suc l + a ≡ l + suc a = omega arith in
+      let next = terms-split (suc l) a b ∙ ap (λ (k : ℕ). linkTerms S termOf j (suc l) a ++ linkTerms S termOf j k b) s in
+      ap (linkTerms S termOf j l) e
+      ∙ maybe (eqb (S .link j l) unknown) (l, termOf (S .link j l)) (linkTerms S termOf j (suc l) a) (linkTerms S termOf j (l + suc a) b) next
+
+  -- no link yet; and one link more, which leads to c
+  pub no-arguments : [] ≡ argumentsText (linkTerms S termOf j 0 0)
+  unfolding linkTerms argumentsText
+  no-arguments = refl
+
+  pub arguments-more :
+      (k from at : ℕ) {c : ℕ} → c ≡ S .link j k → at ≡ from + length (argumentsText (linkTerms S termOf j 0 k)) →
+      argumentsText (linkTerms S termOf j 0 k) ++ argumentText (signBefore from at) k c (termOf c)
+      ≡ argumentsText (linkTerms S termOf j 0 (k + 1))
+  unfolding linkTerms
+  arguments-more k from at {c} q e =
+      let before = linkTerms S termOf j 0 k in
+      let k-is : 0 + k ≡ k = omega arith in
+      let split : linkTerms S termOf j 0 (k + 1) ≡ before ++ cond (eqb c unknown) [] ((k, termOf c) ∷ []) =
+      terms-split 0 k 1 ∙ ap (λ (i : ℕ). before ++ linkTerms S termOf j i 1) k-is
+      ∙ ap (λ (i : ℕ). before ++ cond (eqb i unknown) [] ((k, termOf i) ∷ [])) (sym q) in
+      by-cases (ℕ-discrete c unknown)
+      (λ h. rw (split, eq-eqb c unknown h) (append-nil (argumentsText before) ∙ ap argumentsText (sym (append-nil before))))
+      (λ d. rw (split, ne-eqb c unknown d) (sym (argument-behind from at before e k (termOf c))))
+
+-- the text of a joint's term, from those of its arguments
+pub term-from :
+    (S : Form) (below j from at : ℕ) →
+    at ≡ from + length (argumentsText (linkTerms S (λ c. termFrom S below c) j 0 16)) →
+    headText j (S .kind j) ++ (argumentsText (linkTerms S (λ c. termFrom S below c) j 0 16) ++ closingText from at)
+    ≡ termText (termFrom S (suc below) j)
+unfolding termFrom
+term-from S below j from at e = term-text j (S .kind j) (linkTerms S (λ c. termFrom S below c) j 0 16) from at e

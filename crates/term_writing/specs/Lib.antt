@@ -1,0 +1,4 @@
+pub mod Tree
+pub mod WriteTerm
+pub mod Visiting
+pub mod Rising

@@ -1,0 +1,4 @@
+pub mod Numbers
+pub mod Running
+pub mod Language
+pub mod OneReading

@@ -1,0 +1,4 @@
+pub mod Term
+pub mod Language
+pub mod Facts
+pub mod Machine
