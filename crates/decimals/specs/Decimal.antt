@@ -18,6 +18,6 @@ digits (suc most) x = cond (ltb x 10) (digit x ∷ []) (digits most (x / 10) ++ 
 abbrev pub longestNumber : ℕ
 longestNumber = 10
 
--- a number in decimal; read back it is the number, and no zero leads: `reads-back`, `no-leading-zero` in proofs/Decimals.antt
+-- a number below 10^10 in decimal; read back it is the number, and no zero leads: `reads-back`, `no-leading-zero` in proofs/Decimals.antt
 abbrev pub decimal : ℕ → List ℕ
 decimal x = digits longestNumber x

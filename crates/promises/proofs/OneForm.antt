@@ -1,15 +1,15 @@
 -- One result for the inner functions whose contracts are no equations: the test of two runs, the unpacked form, and what becomes of a form
 -- with a fact. Both forms are fixed at every node, and with them the bytes of the code's arrays.
 -- Assumes nothing.
-use mathlib.Core.Path.{_≡_, refl, sym, _∙_}
+use mathlib.Core.Path.{_≡_, refl, sym, ap, _∙_}
 use mathlib.Core.Logic.{by-cases}
 use mathlib.Core.Bool.{Bool, true, false, false≢true}
-use mathlib.Core.List.{List, [], _∷_}
+use mathlib.Core.List.{List, [], _∷_, _++_}
 use Prim.Native.Nat.{ℕ, _+_, _*_, _/_, _%_, _<_, _≤_}
 use native.Mathlib.Omega.{arith}
 use native.Mathlib.Decide.{decLt}
 use native.Mathlib.Nat.{div-add-mod', mod-lt}
-use lib.ListN.{length}
+use lib.ListN.{length, take, drop, take-append-drop}
 use lib.Seq.{ext-getD}
 use Rattle.kinds.specs.Kinds.{meetAt}
 use Rattle.kinds.specs.Laws.{Lawful}
@@ -20,6 +20,7 @@ use Rattle.meaning.specs.Asking.{Extends}
 use Rattle.meaning.proofs.SameForm.{SameForm}
 use Rattle.meaning.proofs.Unique.{taken-one}
 use Rattle.meaning.proofs.Takes.{taken-not-refuted}
+use Rattle.writing.specs.Putting.{Put}
 use Rattle.solver.specs.declared.Solved.{Solved}
 use Rattle.solver.specs.Unpacked.{formOf, Ready, Took}
 use Rattle.solver.proofs.OneFact.{some-node}
@@ -77,3 +78,13 @@ module _ {n v : ℕ} {table : List ℕ} {S : Form} (f : Fact ℕ) (ready : Ready
   next-one true false t u = absurd (taken-not-refuted (ready .lawful) (some-node n v f in-range) (t .taken refl) (u .refuted refl))
   next-one false true t u = absurd (taken-not-refuted (ready .lawful) (some-node n v f in-range) (u .taken refl) (t .refuted refl))
   next-one false false t u = (refl, λ e. absurd (false≢true e))
+
+-- what `writing::put` allows: every byte and the place behind them
+pub put-one : {bytes s t u : List ℕ} {at e f : ℕ} → Put bytes at s t e → Put bytes at s u f → (t ≡ u) × (e ≡ f)
+put-one {bytes} {s} {t} {u} {at} {e} {f} p q = (whole t e p ∙ ap (λ (k : ℕ). (take at s ++ bytes) ++ drop k s) same ∙ sym (whole u f q), same)
+  where
+    same : e ≡ f
+    same = p .ends ∙ sym (q .ends)
+
+    whole : (x : List ℕ) (k : ℕ) → Put bytes at s x k → x ≡ (take at s ++ bytes) ++ drop k s
+    whole x k r = sym (take-append-drop k x) ∙ cc (r .front, r .behind)

@@ -4,14 +4,10 @@ use mathlib.Core.Path.{_≡_, refl, _∙_}
 use mathlib.Core.List.{List, [], _∷_, _++_}
 use Prim.Native.Nat.{ℕ, zero, suc, _≤_}
 use native.Mathlib.Omega.{arith}
-use lib.Dec.{leb}
 use lib.ListN.{length, take, replicate}
-use borrow.Author.Tests.{le-leb}
-use Rattle.replies.specs.declared.Cause.the-variants.{BadSize, NoTerm as no-term-cause}
+use Rattle.replies.specs.declared.Cause.the-variants.{NoTerm as no-term-cause}
 use Rattle.replies.specs.declared.Reply.the-variants.{Done, Refused}
-use Rattle.replies.proofs.Laws.{first-none, test-next}
 use Rattle.decimals.specs.Decimal.{digits}
-use Rattle.blocks.specs.WellFormed.{blockReply}
 use Rattle.blocks.proofs.Shape.{block-done}
 use Rattle.terms.specs.Term.{Term, textOf, termText, termTokens}
 use Rattle.terms.specs.Term.Written.{unwritten}
@@ -23,6 +19,7 @@ use Rattle.terms.specs.Machine.State.{dead}
 use Rattle.terms.proofs.Language.{stuck}
 use Rattle.term_reading.specs.ReadTerm.{longestText, readTermRefusal}
 use Rattle.term_reading.specs.ReadTerm.ReadTerm.{no-term}
+use Rattle.term_reading.proofs.Answers.{block-decides}
 use Rattle.term_reading.proofs.OneRead.{read-term-one}
 use Rattle.promises.specs.Examples.{opened, StopsAt, nested, TermPlaces}
 use Rattle.promises.proofs.Readings.{reads-exactly}
@@ -30,11 +27,7 @@ use Rattle.promises.proofs.ExampleBlock.{opened-good}
 
 -- a block opened with house kinds is refused no text of a size that may be lent
 pub opened-passes : (text : List ℕ) → length text ≤ longestText → readTermRefusal opened text ≡ Done 0
-unfolding readTermRefusal
-opened-passes text h =
-    test-next (leb (length text) longestText) BadSize 0 [] (blockReply opened) (le-leb (length text) longestText h)
-    ∙ first-none (blockReply opened)
-    ∙ block-done opened-good
+opened-passes text h = block-decides opened text h ∙ block-done opened-good
 
 stops : (text : List ℕ) (p : ℕ) → length text ≤ longestText → NoTerm text p → StopsAt text p
 stops text p h none out r x =

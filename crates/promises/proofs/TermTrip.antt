@@ -5,19 +5,16 @@
 use mathlib.Core.Path.{_≡_, refl, sym, ap, _∙_, subst}
 use mathlib.Core.Logic.{_↔_, by-cases}
 use mathlib.Core.Bool.{false, true≢false}
-use mathlib.Core.List.{List, [], _++_, map}
+use mathlib.Core.List.{List, _++_, map}
 use Prim.Native.Nat.{ℕ, zero, suc, _<_, _≤_}
 use native.Mathlib.Omega.{arith}
 use native.Mathlib.Decide.{decLt}
-use lib.Dec.{leb, ltb}
 use lib.ListN.{length, take, drop}
 use lib.Seq.{take-append-seam}
-use borrow.Author.Tests.{eq-eqb, le-leb, lt-ltb}
-use Rattle.replies.specs.declared.Cause.the-variants.{BadSize, OutOfRange}
+use borrow.Author.Tests.{eq-eqb}
 use Rattle.replies.specs.declared.Reply.{Reply}
 use Rattle.replies.specs.declared.Reply.the-variants.{Done}
 use Rattle.replies.specs.Replies.{refuses, third}
-use Rattle.replies.proofs.Laws.{first-none, first-next, test-next, not-both}
 use Rattle.meaning.specs.declared.RigJoint.{RigJoint}
 use Rattle.meaning.specs.Picture.{Fact, rename}
 use Rattle.meaning.specs.Form.{Form, factsOf, classes, rigJoint}
@@ -43,12 +40,15 @@ use Rattle.terms.specs.Facts.{termFacts}
 use Rattle.terms.proofs.OneReading.{one-reading}
 use Rattle.term_reading.specs.Range.{rangeReply}
 use Rattle.term_reading.specs.ReadTerm.{ReadTerm, longestText, readTermRefusal, termPacket}
+use Rattle.term_reading.proofs.Answers.{block-decides}
 use Rattle.term_reading.proofs.OneRead.{Readable, reads, reads-only}
 use Rattle.term_writing.specs.Tree.{TreeFrom, termFrom}
 use Rattle.term_writing.specs.Rising.{Rising}
 use Rattle.term_writing.specs.WriteTerm.{WriteTerm, writeTermRefusal, writtenText}
 use Rattle.term_writing.specs.WriteTerm.WriteTerm.{refused, no-tree, tree as from-tree}
 use Rattle.term_writing.proofs.TreeFacts.{tree-fits, tree-few, tree-ranged, tree-means, tree-rises}
+use Rattle.term_writing.proofs.Writes.{not-refused as writes-unrefused}
+use Rattle.term_writing.proofs.OneWrite.{write-term-one}
 use Rattle.term_writing.proofs.WrittenText.{write-goes-on, written-short}
 use Rattle.promises.proofs.RoundTrip.{sized, fresh, fresh-well, stands-fresh, can-open}
 use Rattle.promises.proofs.TermPackets.{ranged-passes, term-packet-well, term-packet-says}
@@ -102,11 +102,7 @@ module _ {b : List ℕ} (g : GoodBlock b) {root : ℕ} (inside : root < jointsOf
 
   -- a fresh block reads it
   fresh-reads : readTermRefusal (fresh g) (writtenText b root) ≡ Done 0
-  unfolding readTermRefusal
-  fresh-reads =
-      test-next (leb (length (writtenText b root)) longestText) BadSize 0 [] (blockReply (fresh g)) (le-leb _ _ text-short)
-      ∙ first-none (blockReply (fresh g))
-      ∙ fresh-well g
+  fresh-reads = block-decides (fresh g) (writtenText b root) text-short ∙ fresh-well g
 
   readable : (out : List ℕ) → length (treePacket b root) ≤ length out → Readable (fresh g) (treeTerm b root) out
   readable out room = record { in-range = in-range; few = few; room = room }
@@ -168,22 +164,13 @@ module _ {b : List ℕ} (g : GoodBlock b) {root : ℕ} (inside : root < jointsOf
 
   -- writing from the joint gives the text, and nothing else
   write-passes : writeTermRefusal b root ≡ Done 0
-  unfolding writeTermRefusal
-  write-passes =
-      first-next (blockReply b) _ (Done 0) (ap refuses (block-done g))
-      ∙ test-next (ltb root (jointsOf b)) OutOfRange 0 [] (Done 0) (lt-ltb root (jointsOf b) inside)
-      ∙ first-none (Done 0)
+  write-passes = writes-unrefused b root (ap refuses (block-done g)) inside
 
   module _ (out : List ℕ) (room : length (writtenText b root) ≤ length out) where
     writes-text : Exactly (WriteTerm b root out) (puts (writtenText b root) out)
     writes-text =
-        exactly (from-tree write-passes tree (sym (has-room (writtenText b root) out room)) (all-put (writtenText b root) out room)) (λ r x a. only a)
-      where
-        only : {reply : Reply} {after : List ℕ} → WriteTerm b root out reply after →
-            (reply ≡ Done (length (writtenText b root))) × (after ≡ writtenText b root ++ drop (length (writtenText b root)) out)
-        only (refused e q same) = absurd (not-both e write-passes)
-        only (no-tree d none q same) = absurd (none tree)
-        only (from-tree d _ q put) = (q ∙ has-room (writtenText b root) out room, put ∙ sym (all-put (writtenText b root) out room))
+        let told = from-tree write-passes tree (sym (has-room (writtenText b root) out room)) (all-put (writtenText b root) out room) in
+        exactly told (λ r x a. write-term-one b root out a told)
 
 -- the trip of a block over lent bytes by the text from the joint `root`: a session is opened with its n, V and table, reads the text, takes the
 -- packet with no join, and is the block again, byte for byte; and the same text is written from it. Nothing else comes of these calls

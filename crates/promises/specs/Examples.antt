@@ -1,5 +1,5 @@
 -- The examples P1 to P12 as one list, and before it their packets, byte by byte: L in two bytes, version, purpose, ties, joint count, then the
--- ties (rule joint, rig joint) and the facts. House kinds, V = 4. Behind them the example of a rig typed as a term.
+-- ties (rule joint, rig joint) and the facts. House kinds, V = 4. Behind them the example of a rig typed as a term, and places of 20.
 -- Assumes nothing.
 use mathlib.Core.Path.{_≡_}
 use mathlib.Core.Logic.{_↔_}

@@ -26,7 +26,7 @@ pub data Calls : List ℕ → List Sent → List ℕ → Type 0 where
   none : {b : List ℕ} → Calls b [] b
   -- the packet may be taken, refused, or clash
   taking : {b next c : List ℕ} {sent : List Sent} (s : Sent) → Take b (s .packet) (s .reply) next → Calls next sent c → Calls b (s ∷ sent) c
-  -- asking and writing leave the block as it is
+  -- Asking leaves the block as it is, and so do the calls that are lent an output: writing the solved form, reading a term and writing one.
   asking : {b c p : List ℕ} {r : Reply} {sent : List Sent} → Ask b p r → Calls b sent c → Calls b sent c
   writing : {b c : List ℕ} {sent : List Sent} (out : List ℕ) → Calls b sent c → Calls b sent c
 

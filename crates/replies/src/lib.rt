@@ -6,7 +6,7 @@ ghost use Rattle.replies.specs.Replies.{causeNumber, number, place, thir
 
 // Why a call is refused.
 pub enum Cause {
-    // 1: n or V out of range, or a lent slice that has not its size.
+    // 1: n or V out of range, a lent slice that has not its size, or a text that is too long.
     BadSize,
     // 2: a table entry that is no kind, at its offset.
     NoKind,
@@ -30,9 +30,9 @@ pub enum Cause {
     Clash,
     // 12: the output is shorter than what is to be written.
     ShortOutput,
-    // 20: the text is no term, at the first offset where nothing can continue it.
+    // 20: the text is no term, or deeper than 16, at the first offset where nothing can continue it.
     NoTerm,
-    // 21: a number of a text out of range, at its first digit; or the joint chosen.
+    // 21: a number of a text out of range, at its first digit; or the joint chosen, at 0.
     OutOfRange,
     // 22: the term says more facts than a packet holds.
     TooManyFacts,

@@ -3,28 +3,28 @@
 use mathlib.Core.Path.{_≡_, refl, sym, ap, _∙_, subst}
 use mathlib.Core.Logic.{_≢_}
 use mathlib.Core.Bool.{Bool, true, false, cond}
-use mathlib.Core.List.{List, [], _∷_, _++_, map}
-use Prim.Native.Nat.{ℕ, _+_, _*_, _/_, _%_, _^_, _<_, _≤_}
+use mathlib.Core.List.{List, [], _∷_, map}
+use Prim.Native.Nat.{ℕ, _+_, _*_, _/_, _%_, _<_, _≤_}
 use native.Mathlib.Omega.{arith}
-use lib.Dec.{eqb, leb}
+use lib.Dec.{leb}
 use lib.ListN.{length, getD, take, drop, length-map}
 use lib.Seq.{take-all, take-append-add}
 use borrow.Author.Tests.{eq-eqb, ne-eqb, le-leb, lt-leb}
-use Rattle.replies.specs.declared.Cause.the-variants.{BadSize, OutOfRange, NoTerm as no-term-cause, TooManyFacts}
+use Rattle.replies.specs.declared.Cause.the-variants.{BadSize, OutOfRange, TooManyFacts}
 use Rattle.replies.specs.declared.Reply.{Reply}
 use Rattle.replies.specs.declared.Reply.the-variants.{Done, Refused}
-use Rattle.replies.specs.Replies.{refuses, unless, firstRefusal}
+use Rattle.replies.specs.Replies.{refuses, firstRefusal}
 use Rattle.replies.proofs.Laws.{first-here, first-next, first-none, test-here, test-next}
-use Rattle.meaning.specs.Picture.{Fact, rename}
+use Rattle.meaning.specs.Picture.{rename}
 use Rattle.meaning.specs.Form.{rigJoint}
-use Rattle.packets.specs.FactsPacket.{allBytes, factsPacket}
+use Rattle.writing.specs.Putting.{formBytes}
 use Rattle.joints.specs.Layout.{kindsOf, jointsOf}
 use Rattle.blocks.specs.WellFormed.{blockReply}
 use Rattle.blocks.proofs.Shape.{good-block, block-done}
 use Rattle.outputs.specs.Output.{outputReply, outputAfter}
 use Rattle.outputs.proofs.Output.{output-stays}
-use Rattle.terms.specs.Term.{Term, termTokens, textOf}
-use Rattle.terms.specs.Language.{Reading, NoTerm, deepest}
+use Rattle.terms.specs.Term.{Term, termTokens}
+use Rattle.terms.specs.Language.{NoTerm, deepest}
 use Rattle.terms.specs.Facts.{termFacts}
 use Rattle.terms.specs.Machine.{here, end}
 use Rattle.term_reading.specs.declared.Front.{Front}
@@ -33,7 +33,7 @@ use Rattle.term_reading.specs.Range.{rangeReply}
 use Rattle.term_reading.specs.ReadTerm.{longestText, mostFacts, termPacket, termReply, termOutput, readTermRefusal, ReadTerm}
 use Rattle.term_reading.specs.ReadTerm.ReadTerm.{refused, no-term as call-no-term, term as call-term}
 use Rattle.term_reading.specs.Reading.TextAnswer.{no-term, term}
-use Rattle.term_reading.specs.Reading.{nowhere, wrongReply, lowBytes, factsRoom, Said, TermRead, WholeRead, Holding, PacketAnswer, TextAnswer}
+use Rattle.term_reading.specs.Reading.{nowhere, wrongReply, factsRoom, TermRead, WholeRead, Holding, PacketAnswer, TextAnswer}
 use Rattle.term_reading.proofs.Segments.{stands}
 use Rattle.term_reading.proofs.Contexts.{nothing-behind}
 use Rattle.term_reading.proofs.InRange.{facts-in-range, in-range-low}
@@ -45,7 +45,7 @@ long-refuses : (b text : List ℕ) → longestText < length text → readTermRef
 unfolding readTermRefusal
 long-refuses b text h = test-here (leb (length text) longestText) BadSize 0 [] (blockReply b) (lt-leb (length text) longestText h)
 
-block-decides : (b text : List ℕ) → length text ≤ longestText → readTermRefusal b text ≡ blockReply b
+pub block-decides : (b text : List ℕ) → length text ≤ longestText → readTermRefusal b text ≡ blockReply b
 unfolding readTermRefusal
 block-decides b text h =
     test-next (leb (length text) longestText) BadSize 0 [] (blockReply b) (le-leb (length text) longestText h) ∙ first-none (blockReply b)
@@ -82,7 +82,7 @@ holding {last = last} w packet room e =
 
 -- the reply to a term, and the output afterwards
 module _ (n v : ℕ) (t : Term) (out : List ℕ) where
-  pub term-refused : {x : Reply} → termReply n v t out ≡ x → refuses x ≡ true → out ≡ termOutput n v t out
+  term-refused : {x : Reply} → termReply n v t out ≡ x → refuses x ≡ true → out ≡ termOutput n v t out
   unfolding termOutput
   term-refused e f = rw (e, f)
 
@@ -150,7 +150,7 @@ module _ (front : Front) (v : ℕ) (packet out : List ℕ) where
           take-append-add (f / 256 ∷ f % 256 ∷ 1 ∷ 1 ∷ 0 ∷ v ∷ []) (drop 6 packet) (4 * front .facts)
           ∙ ap (λ (y : List ℕ). f / 256 ∷ f % 256 ∷ 1 ∷ 1 ∷ 0 ∷ v ∷ y)
           (h .bytes few ∙ in-range-low n v kinds joints (termFacts t) (facts-in-range n v t e))
-          ∙ ap (λ (c : ℕ). (4 + 4 * c) / 256 ∷ (4 + 4 * c) % 256 ∷ 1 ∷ 1 ∷ 0 ∷ v ∷ allBytes (map (rename rigJoint) (termFacts t))) (sym k)
+          ∙ ap (λ (c : ℕ). (4 + 4 * c) / 256 ∷ (4 + 4 * c) % 256 ∷ 1 ∷ 1 ∷ 0 ∷ v ∷ formBytes (termFacts t)) (sym k)
 
       -- 12, or done
       pub put : {bytes : List ℕ} {reply : Reply} {after : List ℕ} →

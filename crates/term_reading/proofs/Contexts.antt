@@ -3,73 +3,54 @@
 -- Assumes nothing.
 use mathlib.Core.Path.{_≡_, refl, sym, ap, _∙_, subst}
 use mathlib.Core.Logic.{_≢_}
-use mathlib.Core.Bool.{Bool, true, false, cond, false≢true}
+use mathlib.Core.Bool.{false, false≢true}
 use mathlib.Core.List.{List, [], _∷_, _++_, append-nil, append-assoc}
-use Prim.Native.Nat.{ℕ, zero, suc, _+_, _-_, _<_, _≤_}
+use Prim.Native.Nat.{ℕ, suc, _+_, _-_, _<_, _≤_}
 use native.Mathlib.Omega.{arith}
-use native.Mathlib.Numerals.{add-one}
-use lib.Dec.{eqb, ltb}
 use lib.ListN.{length, take}
-use borrow.Author.Tests.{eqb-true, eqb-false, eq-eqb, ne-eqb, lt-ltb}
+use borrow.Author.Tests.{ne-eqb}
 use Rattle.decimals.specs.Decimal.{decimal}
 use Rattle.terms.specs.Term.{Written, Term, Arguments, Token, at-sign, colon, opening, closing, comma, equals, greater}
-use Rattle.terms.specs.Term.{kindTokens, headTokens, linkTokens, termTokens, argumentTokens, spell, textOf, termText}
+use Rattle.terms.specs.Term.{kindTokens, headTokens, linkTokens, termTokens, argumentTokens, textOf, termText}
 use Rattle.terms.specs.Term.Written.{unwritten, written}
 use Rattle.terms.specs.Term.Term.{bare, bracketed}
 use Rattle.terms.specs.Term.Arguments.{one, more}
-use Rattle.terms.specs.Term.Token.{sign, joint, kind, link}
 use Rattle.terms.specs.Language.{Short, KindShort, Fits, ArgumentsFit, deepest, Begun, NoTerm}
-use Rattle.terms.specs.Machine.{Role, Phase, State, here, end, isDigit, step, run, start, firstDigit, nextDigit, behindNumber, behindHead, behindTerm, digitsLeft}
+use Rattle.terms.specs.Machine.{Role, State, here, end, isDigit, step, run, start, firstDigit, behindNumber, behindHead, behindTerm, digitsLeft}
 use Rattle.terms.specs.Machine.{endOf, endOfHead}
 use Rattle.terms.specs.Machine.Role.{of-joint, of-kind, of-link}
-use Rattle.terms.specs.Machine.Phase.{awaiting, number, digits, arrow, closed}
-use Rattle.terms.specs.Machine.State.{live, over, dead}
-use Rattle.terms.proofs.Running.{text-append, run-append, run-number, run-head, run-link, run-term, bracketed-text, more-text}
+use Rattle.terms.specs.Machine.Phase.{awaiting, number, digits, arrow}
+use Rattle.terms.specs.Machine.State.{live, dead}
+use Rattle.terms.proofs.Running.{text-append, run-append, run-number, run-head, run-link, run-term, bracketed-text, more-text, goes-bracket}
 use Rattle.terms.proofs.Language.{begun-front, term-begun, stuck}
-use Rattle.term_reading.specs.Reading.{NumberRead, jointTokens, Awaited, ArgumentsAwaited}
+use Rattle.term_reading.specs.declared.Front.{Front}
+use Rattle.term_reading.specs.Reading.{NumberRead, Segment, jointTokens, Awaited, ArgumentsAwaited}
 use Rattle.term_reading.proofs.Segments.{within, with-byte}
 
 -- the bytes with which nothing goes on
-by-eqb : {A : Type 0} (b c : ℕ) (x y : A) → b ≢ c → cond (eqb b c) x y ≡ y
-by-eqb b c x y h = ap (λ (t : Bool). cond t x y) (ne-eqb b c h)
-
 dies-awaiting : (around b : ℕ) → b ≢ at-sign → step (live around awaiting) b ≡ dead
 unfolding step
-dies-awaiting around b h = by-eqb b at-sign _ _ h
+dies-awaiting around b h = rw (ne-eqb b at-sign h)
 
 dies-number : (role : Role) (around b : ℕ) → isDigit b ≡ false → step (live around (number role)) b ≡ dead
 unfolding step firstDigit
-dies-number role around b h =
-    by-eqb b 48 _ _ (λ e. false≢true (sym h ∙ ap isDigit e)) ∙ ap (λ (t : Bool). cond t (live around (digits role 2)) dead) h
+dies-number role around b h = rw (ne-eqb b 48 (λ e. false≢true (sym h ∙ ap isDigit e)), h)
 
 dies-link : (around b : ℕ) → b ≢ equals → behindNumber of-link around b ≡ dead
 unfolding behindNumber
-dies-link around b h = by-eqb b equals _ _ h
+dies-link around b h = rw (ne-eqb b equals h)
 
 dies-arrow : (around b : ℕ) → b ≢ greater → step (live around arrow) b ≡ dead
 unfolding step
-dies-arrow around b h = by-eqb b greater _ _ h
+dies-arrow around b h = rw (ne-eqb b greater h)
 
 dies-behind : (around b : ℕ) → b ≢ comma → b ≢ closing → behindTerm (suc around) b ≡ dead
 unfolding behindTerm
-dies-behind around b h g = by-eqb b comma _ _ h ∙ by-eqb b closing _ _ g
+dies-behind around b h g = rw (ne-eqb b comma h, ne-eqb b closing g)
 
 dies-outside : (b : ℕ) → b ≢ end → behindTerm 0 b ≡ dead
 unfolding behindTerm
-dies-outside b h = by-eqb b end _ _ h
-
--- behind a joint number where no `:` stands, and behind a head where no bracket opens
-pub no-colon : (around b : ℕ) → b ≢ colon → behindNumber of-joint around b ≡ behindHead around b
-unfolding behindNumber
-no-colon around b h = by-eqb b colon _ _ h
-
-pub kind-behind : (around b : ℕ) → behindNumber of-kind around b ≡ behindHead around b
-unfolding behindNumber
-kind-behind around b = refl
-
-pub no-bracket : (around b : ℕ) → b ≢ opening → behindHead around b ≡ behindTerm around b
-unfolding behindHead
-no-bracket around b h = by-eqb b opening _ _ h
+dies-outside b h = rw (ne-eqb b end h)
 
 -- and the bytes with which something does
 goes-joint : (around : ℕ) → step (live around awaiting) at-sign ≡ live around (number of-joint)
@@ -79,10 +60,6 @@ goes-joint around = refl
 goes-kind : (around : ℕ) → behindNumber of-joint around colon ≡ live around (number of-kind)
 unfolding behindNumber
 goes-kind around = refl
-
-goes-bracket : (around : ℕ) → around < 15 → behindHead around opening ≡ live around (number of-link)
-unfolding behindHead
-goes-bracket around h = ap (λ (t : Bool). cond t (live around (number of-link)) dead) (lt-ltb around 15 h)
 
 no-deeper : behindHead 15 opening ≡ dead
 unfolding behindHead
@@ -133,6 +110,10 @@ byte-between text p b h small = record { is = with-byte text p b h small }
 
 read-between : {text : List ℕ} {from x p : ℕ} → NumberRead text from x p → Between text from p (decimal x)
 read-between r = record { is = r .spelled }
+
+pub spans : {text : List ℕ} {n v : ℕ} {from last : Front} {tokens : List Token} → Segment text n v from tokens last →
+    Between text (from .at) (last .at) (textOf tokens)
+spans s = record { is = s .spelled }
 
 stuck-in : (text : List ℕ) (p : ℕ) {s : State} → p ≤ length text → Begun (take p text) → run start (take p text) ≡ s →
     step s (here text p) ≡ dead → NoTerm text p
@@ -240,13 +221,9 @@ module _ (text : List ℕ) (around from : ℕ) (w : Awaited text around from) wh
                 ∙ goes-bracket around (omega (arith, w .shallow, e));
             viable =
                 λ args levels l f.
-                begun-past more-between (termText (bracketed j s args)) (textOf (argumentTokens args)) (closing ∷ []) (spelled args)
+                begun-past more-between (termText (bracketed j s args)) (textOf (argumentTokens args)) (closing ∷ []) (bracket-text j s args)
                 (w .viable (bracketed j s args) (suc levels) l (short, kind-short, f));
           }
-        where
-          spelled : (args : Arguments) →
-              termText (bracketed j s args) ≡ (textOf (headTokens j s) ++ opening ∷ []) ++ (textOf (argumentTokens args) ++ closing ∷ [])
-          spelled args = bracket-text j s args
 
 module _ (text : List ℕ) (around from : ℕ) (w : ArgumentsAwaited text around from) where
   some-arguments : (args : Arguments) → ((k : ℕ) → ArgumentsFit args (suc k)) → Begun (take from text ++ textOf (argumentTokens args))

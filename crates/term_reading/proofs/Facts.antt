@@ -6,27 +6,18 @@ use Prim.Native.Nat.{ℕ, _+_, _*_, _<_, _≤_}
 use native.Mathlib.Omega.{arith}
 use native.Mathlib.Nat.{add-zero}
 use lib.ListN.{length, take, length-append}
-use Rattle.meaning.specs.declared.RigJoint.{RigJoint}
-use Rattle.meaning.specs.Picture.{Fact, rename}
+use Rattle.meaning.specs.Picture.{Fact}
 use Rattle.meaning.specs.Picture.Fact.{has-kind, leads}
-use Rattle.meaning.specs.Form.{rigJoint}
-use Rattle.packets.specs.FactsPacket.{factBytes, allBytes}
-use Rattle.writing.specs.Putting.{Put}
+use Rattle.packets.specs.FactsPacket.{allBytes}
+use Rattle.writing.specs.Putting.{Put, formBytes}
+use Rattle.writing.proofs.Putting.{bytes-append}
 use Rattle.term_reading.specs.declared.Lead.{Lead}
 use Rattle.term_reading.specs.declared.Lead.the-variants as lead-case
 use Rattle.term_reading.specs.ReadTerm.{mostFacts}
 use Rattle.term_reading.specs.Reading.{low, lowBytes, Said, PutFact, leadFacts}
 
-bytes-append : (fs gs : List (Fact RigJoint)) → allBytes (fs ++ gs) ≡ allBytes fs ++ allBytes gs
-unfolding allBytes
-bytes-append [] gs = refl
-bytes-append (f ∷ fs) gs = ap (λ (l : List ℕ). factBytes f ++ l) (bytes-append fs gs) ∙ sym (append-assoc (factBytes f) (allBytes fs) (allBytes gs))
-
-pub low-append : (fs gs : List (Fact ℕ)) → lowBytes (fs ++ gs) ≡ lowBytes fs ++ lowBytes gs
-low-append fs gs =
-    ap (λ (l : List (Fact RigJoint)). map low (allBytes l)) (map-append (rename rigJoint) fs gs)
-    ∙ ap (map low) (bytes-append (map (rename rigJoint) fs) (map (rename rigJoint) gs))
-    ∙ map-append low (allBytes (map (rename rigJoint) fs)) (allBytes (map (rename rigJoint) gs))
+low-append : (fs gs : List (Fact ℕ)) → lowBytes (fs ++ gs) ≡ lowBytes fs ++ lowBytes gs
+low-append fs gs = ap (map low) (bytes-append fs gs) ∙ map-append low (formBytes fs) (formBytes gs)
 
 pub nothing-said : (k : ℕ) (s : List ℕ) → Said [] k s k s
 unfolding allBytes
@@ -61,7 +52,7 @@ pub kind-said : (a x : ℕ) {k m : ℕ} {s t : List ℕ} → PutFact (1 ∷ low 
 unfolding allBytes
 kind-said a x p = one-said (has-kind a x) (1 ∷ low a ∷ low x ∷ low 0 ∷ []) refl p
 
-pub link-said : (a l c : ℕ) {k m : ℕ} {s t : List ℕ} → PutFact (3 ∷ low a ∷ low l ∷ low c ∷ []) k s m t → Said (leads a l c ∷ []) k s m t
+link-said : (a l c : ℕ) {k m : ℕ} {s t : List ℕ} → PutFact (3 ∷ low a ∷ low l ∷ low c ∷ []) k s m t → Said (leads a l c ∷ []) k s m t
 unfolding allBytes
 link-said a l c p = one-said (leads a l c) (3 ∷ low a ∷ low l ∷ low c ∷ []) refl p
 

@@ -3,7 +3,7 @@
 use mathlib.Core.Path.{_≡_, refl, ap, _∙_}
 use mathlib.Core.Bool.{Bool, true, false, cond, true≢false}
 use mathlib.Core.List.{List, [], _∷_, _++_, map, map-append}
-use Prim.Native.Nat.{ℕ, _+_, _%_, _<_, _≤_}
+use Prim.Native.Nat.{ℕ, _+_, _<_, _≤_}
 use native.Mathlib.Omega.{arith}
 use native.Mathlib.Nat.{mod-eq-of-lt}
 use lib.ListN.{length}
@@ -18,6 +18,7 @@ use Rattle.meaning.specs.Form.{rigJoint}
 use Rattle.meaning.specs.Solving.{InRange, AllInRange}
 use Rattle.meaning.proofs.Facts.{in-range-append}
 use Rattle.packets.specs.FactsPacket.{factBytes, allBytes}
+use Rattle.writing.specs.Putting.{formBytes}
 use Rattle.terms.specs.Term.{Written, Term, Arguments, Token, opening, closing, comma, spell, termTokens, argumentTokens, headTokens, kindTokens, linkTokens}
 use Rattle.terms.specs.Term.Token.{sign}
 use Rattle.terms.specs.Term.Written.{unwritten, written}
@@ -106,9 +107,9 @@ module _ (n v : ℕ) where
     fact-low (same a b) h = rw (small a (omega (arith, h .0)), small b (omega (arith, h .1)))
     fact-low (leads a l c) h = rw (small a (omega (arith, h .0)), small l (omega (arith, h .1)), small c (omega (arith, h .2)))
 
-    pub in-range-low : (fs : List (Fact ℕ)) → AllInRange n v fs → lowBytes fs ≡ allBytes (map (rename rigJoint) fs)
+    pub in-range-low : (fs : List (Fact ℕ)) → AllInRange n v fs → lowBytes fs ≡ formBytes fs
     unfolding allBytes
     in-range-low [] h = refl
     in-range-low (f ∷ fs) h =
-        map-append low (factBytes (rename rigJoint f)) (allBytes (map (rename rigJoint) fs))
+        map-append low (factBytes (rename rigJoint f)) (formBytes fs)
         ∙ cc (fact-low f (h .0), in-range-low fs (h .1))

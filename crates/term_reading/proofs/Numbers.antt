@@ -2,21 +2,21 @@
 -- Assumes nothing.
 use mathlib.Core.Path.{_≡_, refl, sym, ap, _∙_}
 use mathlib.Core.Logic.{_≢_}
-use mathlib.Core.Bool.{Bool, true, false, not, cond}
+use mathlib.Core.Bool.{Bool, true, false, not}
 use mathlib.Core.List.{List, [], _∷_, _++_, append-assoc}
-use Prim.Native.Nat.{ℕ, zero, suc, _+_, _-_, _*_, _<_, _≤_}
+use Prim.Native.Nat.{ℕ, _+_, _-_, _*_, _<_, _≤_}
 use native.Mathlib.Omega.{arith}
-use native.Mathlib.Nat.{add-assoc}
-use lib.Dec.{eqb, ltb, leb}
+use lib.Dec.{leb}
 use lib.ListN.{length, take}
 use borrow.Author.Tests.{leb-true, ne-eqb, le-ltb, not-true, not-false}
 use Rattle.runs.proofs.Zeros.{both}
 use Rattle.decimals.specs.Decimal.{digit, decimal}
 use Rattle.decimals.proofs.Decimals.{one-digit}
-use Rattle.terms.specs.Machine.{Role, State, here, isDigit, step, nextDigit, behindNumber, digitsLeft}
+use Rattle.terms.specs.Machine.{Role, here, isDigit, step, nextDigit, behindNumber, digitsLeft}
 use Rattle.terms.specs.Machine.Phase.{digits}
 use Rattle.terms.specs.Machine.State.{live}
 use Rattle.terms.proofs.Numbers.{two-digits, three-digits}
+use Rattle.terms.proofs.Running.{behind-number}
 use Rattle.term_reading.specs.Reading.{NumberRead}
 use Rattle.term_reading.proofs.Segments.{within, with-byte}
 
@@ -33,15 +33,10 @@ value b e =
     let high = leb-true b 57 (both (leb 48 b) (leb b 57) e .1) in
     record { low = omega (arith, digit-low b e, high); is = omega (arith, digit-low b e) }
 
--- behind the last digit that a number may have, and where no digit stands
+-- behind the last digit that a number may have
 no-more : (role : Role) (around b : ℕ) → step (live around (digits role 0)) b ≡ behindNumber role around b
 unfolding step nextDigit
 no-more role around b = refl
-
-no-digit : (role : Role) (left around b : ℕ) → isDigit b ≡ false → step (live around (digits role left)) b ≡ behindNumber role around b
-unfolding step nextDigit
-no-digit role zero around b e = refl
-no-digit role (suc left) around b e = ap (λ (t : Bool). cond t (live around (digits role left)) (behindNumber role around b)) e
 
 three-left : (x : ℕ) → 100 ≤ x → digitsLeft x ≡ 0
 three-left x h = rw (ne-eqb x 0 (λ e. omega (arith, h, e)), le-ltb x 10 (omega arith), le-ltb x 100 h)
@@ -81,7 +76,7 @@ module _ (text : List ℕ) (from : ℕ) where
           spelled = with-byte text from (digit (a - 48)) here-a small ∙ ap (λ (l : List ℕ). take from text ++ l) (sym spelled);
           ends = ap (λ (l : List ℕ). from + length l) (sym spelled);
           inside = omega (arith, within text from (digit (a - 48)) here-a small);
-          ended = λ role around. no-digit role (digitsLeft (a - 48)) around (here text (from + 1)) end;
+          ended = λ role around. behind-number role (digitsLeft (a - 48)) around (here text (from + 1)) end;
         }
 
     module _ {b : ℕ} (f : here text (from + 1) ≡ b) (g : isDigit b ≡ true) where
@@ -109,7 +104,7 @@ module _ (text : List ℕ) (from : ℕ) where
             spelled = two-bytes ∙ ap (λ (l : List ℕ). take from text ++ l) (sym spelled);
             ends = ap (λ (l : List ℕ). from + length l) (sym spelled);
             inside = omega (arith, within text (from + 1) (digit (b - 48)) here-b small-b);
-            ended = λ role around. no-digit role (digitsLeft (10 * (a - 48) + (b - 48))) around (here text (from + 2)) end;
+            ended = λ role around. behind-number role (digitsLeft (10 * (a - 48) + (b - 48))) around (here text (from + 2)) end;
           }
 
       pub three-read : {c : ℕ} → here text (from + 2) ≡ c → isDigit c ≡ true →

@@ -9,13 +9,12 @@ use Prim.Native.Nat.{ℕ, _+_, _≤_}
 use native.Mathlib.Omega.{arith}
 use lib.Dec.{leb}
 use lib.ListN.{length, drop}
-use borrow.Author.Tests.{le-leb}
 use Rattle.replies.specs.declared.Cause.{Cause}
 use Rattle.replies.specs.declared.Cause.the-variants.{OutOfRange, TooManyFacts, ShortOutput, NoTerm as no-term-cause}
 use Rattle.replies.specs.declared.Reply.{Reply}
 use Rattle.replies.specs.declared.Reply.the-variants.{Done, Refused}
-use Rattle.replies.specs.Replies.{causeNumber, number, refuses, unless}
-use Rattle.replies.proofs.Laws.{not-both, first-next, first-none, test-next, first-holds}
+use Rattle.replies.specs.Replies.{causeNumber, number, unless}
+use Rattle.replies.proofs.Laws.{not-both, first-holds}
 use Rattle.joints.specs.Layout.{kindsOf, jointsOf}
 use Rattle.outputs.specs.Output.{outputReply}
 use Rattle.outputs.proofs.Output.{has-room, all-put}
@@ -25,8 +24,8 @@ use Rattle.terms.specs.Facts.{termFacts}
 use Rattle.terms.proofs.OneReading.{one-reading, no-term-one}
 use Rattle.term_reading.specs.Range.{inRange, rangeReply}
 use Rattle.term_reading.specs.ReadTerm.{ReadTerm, readTermRefusal, termPacket, termReply, termOutput, mostFacts}
-use Rattle.term_reading.proofs.Answers.{goes-out, is-put}
 use Rattle.term_reading.specs.ReadTerm.ReadTerm.{refused, no-term, term}
+use Rattle.term_reading.proofs.Answers.{goes-out, is-put}
 
 pub read-term-one : (b text out : List ℕ) {r s : Reply} {x y : List ℕ} → ReadTerm b text out r x → ReadTerm b text out s y → (r ≡ s) × (x ≡ y)
 read-term-one b text out (refused e q k) (refused e' q' k') = (q ∙ sym q', k ∙ sym k')
@@ -39,8 +38,10 @@ read-term-one b text out (no-term d p u q k) (term d' t u' q' k') = absurd (u .u
 read-term-one b text out (term d t u q k) (refused e q' k') = absurd (not-both e d)
 read-term-one b text out (term d t u q k) (no-term d' p u' q' k') = absurd (u' .unread t u)
 read-term-one b text out (term d t u q k) (term d' t' u' q' k') =
-    let same = one-reading text t t' u u' in
-    (q ∙ ap (λ (v : Term). termReply (kindsOf b) (jointsOf b) v out) same ∙ sym q', k ∙ ap (λ (v : Term). termOutput (kindsOf b) (jointsOf b) v out) same ∙ sym k')
+    let same = one-reading text t t' u u' in (
+      q ∙ ap (λ (v : Term). termReply (kindsOf b) (jointsOf b) v out) same ∙ sym q',
+      k ∙ ap (λ (v : Term). termOutput (kindsOf b) (jointsOf b) v out) same ∙ sym k',
+    )
 
 -- a term in range, of few enough facts, whose packet the output has room for
 module _ (b : List ℕ) (t : Term) (out : List ℕ) where

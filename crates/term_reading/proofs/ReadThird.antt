@@ -1,32 +1,28 @@
 -- The third number of reading is below 2^24, so that the packed number keeps it apart from the place: a refusal has third 0, and a packet of at
 -- most 1,088 facts has at most 4,358 bytes.
 -- Assumes nothing.
-use mathlib.Core.Path.{_≡_, refl, _∙_}
+use mathlib.Core.Path.{_≡_, refl}
 use mathlib.Core.Logic.{by-cases}
 use mathlib.Core.Bool.{Bool, true, false}
-use mathlib.Core.List.{List, []}
+use mathlib.Core.List.{List}
 use Prim.Native.Nat.{ℕ, _^_, _<_, _≤_}
 use native.Mathlib.Omega.{arith}
 use native.Mathlib.Decide.{decLt}
-use lib.Dec.{leb}
 use lib.ListN.{length}
-use borrow.Author.Tests.{le-leb, lt-leb}
-use Rattle.replies.specs.declared.Cause.the-variants.{TooManyFacts}
 use Rattle.replies.specs.declared.Reply.{Reply}
 use Rattle.replies.specs.declared.Reply.the-variants.{Done}
 use Rattle.replies.specs.Replies.{refuses, third}
-use Rattle.replies.proofs.Laws.{refusal-third, first-here, first-next, first-none, test-here, test-next}
+use Rattle.replies.proofs.Laws.{refusal-third}
 use Rattle.packets.proofs.FactsPacket.{size-is}
 use Rattle.joints.specs.Layout.{kindsOf, jointsOf}
-use Rattle.outputs.specs.Output.{outputReply}
 use Rattle.outputs.proofs.Output.{output-third}
 use Rattle.terms.specs.Term.{Term, termTokens}
 use Rattle.terms.specs.Facts.{termFacts}
 use Rattle.term_reading.specs.Range.{rangeReply}
 use Rattle.term_reading.specs.ReadTerm.{ReadTerm, mostFacts, readTermRefusal, termPacket, termReply}
+use Rattle.term_reading.specs.ReadTerm.ReadTerm.{refused, no-term, term}
 use Rattle.term_reading.proofs.InRange.{range-done}
 use Rattle.term_reading.proofs.Answers.{range-refuses, many-refuses, goes-out}
-use Rattle.term_reading.specs.ReadTerm.ReadTerm.{refused, no-term, term}
 
 module _ (b : List ℕ) (t : Term) (out : List ℕ) where
   abbrev ranged : Reply

@@ -1,6 +1,6 @@
 -- Stretches of a text: a sign, a number, one stretch behind the other; and the first number out of range along them.
 -- Assumes nothing.
-use mathlib.Core.Path.{_≡_, refl, sym, ap, _∙_, subst}
+use mathlib.Core.Path.{_≡_, refl, sym, ap, _∙_}
 use mathlib.Core.Logic.{_≢_, by-cases}
 use mathlib.Core.Bool.{Bool, true, false, cond}
 use mathlib.Core.List.{List, [], _∷_, _++_, append-nil, append-assoc}
@@ -8,7 +8,7 @@ use Prim.Native.Nat.{ℕ, zero, suc, _+_, _<_, _≤_}
 use native.Mathlib.Omega.{arith}
 use native.Mathlib.Decide.{decLt}
 use native.Mathlib.Numerals.{add-one}
-use native.Mathlib.Nat.{add-zero, add-assoc}
+use native.Mathlib.Nat.{add-zero}
 use lib.Dec.{eqb, ltb}
 use lib.ListN.{length, getD, take, length-append, List·getD-eq-default}
 use lib.Seq.{take-suc}
@@ -16,10 +16,9 @@ use borrow.Author.Tests.{eq-eqb, ne-eqb, lt-ltb, le-ltb}
 use Rattle.replies.specs.declared.Cause.the-variants.{OutOfRange}
 use Rattle.replies.specs.declared.Reply.{Reply}
 use Rattle.replies.specs.declared.Reply.the-variants.{Done, Refused}
-use Rattle.replies.specs.Replies.{refuses, unless, firstRefusal}
-use Rattle.replies.proofs.Laws.{first-here, first-next, first-none}
+use Rattle.replies.specs.Replies.{unless, firstRefusal}
 use Rattle.terms.specs.Term.{Token, spell, textOf}
-use Rattle.terms.specs.Term.Token.{sign, joint, kind, link}
+use Rattle.terms.specs.Term.Token.{sign, link}
 use Rattle.terms.specs.Machine.{here, end}
 use Rattle.terms.proofs.Running.{text-append}
 use Rattle.term_reading.specs.declared.Front.{Front}
@@ -39,15 +38,19 @@ module _ (text : List ℕ) (p b : ℕ) (stands : here text p ≡ b) (byte : b < 
   pub with-byte : take (p + 1) text ≡ take p text ++ b ∷ []
   with-byte = ap (λ (k : ℕ). take k text) (add-one p) ∙ take-suc text p end within ∙ ap (λ (x : ℕ). take p text ++ x ∷ []) stands
 
+-- the front behind one sign more
+abbrev pub passed : Front → Front
+passed f = record { at = f .at + 1; facts = f .facts; wrong = f .wrong }
+
 -- the first refusal of three, taken in two ways
-pub first-first : (a b c : Reply) → firstRefusal (firstRefusal (a ∷ []) b ∷ []) c ≡ firstRefusal (a ∷ []) (firstRefusal (b ∷ []) c)
+first-first : (a b c : Reply) → firstRefusal (firstRefusal (a ∷ []) b ∷ []) c ≡ firstRefusal (a ∷ []) (firstRefusal (b ∷ []) c)
 unfolding firstRefusal
 first-first (Done t) b c = refl
 first-first (Refused x p) b c = refl
 
 module _ (n v : ℕ) where
   -- numbers out of range along tokens that follow one another
-  pub range-append :
+  range-append :
       (xs ys : List Token) (offset : ℕ) →
       rangeReply n v offset (xs ++ ys) ≡ firstRefusal (rangeReply n v offset xs ∷ []) (rangeReply n v (offset + length (textOf xs)) ys)
   unfolding rangeReply textOf firstRefusal
@@ -96,8 +99,7 @@ module _ (n v : ℕ) where
         }
 
     -- a sign
-    pub a-sign : (f : Front) (b : ℕ) → here text (f .at) ≡ b → b < 256 →
-        Segment text n v f (sign b ∷ []) (record { at = f .at + 1; facts = f .facts; wrong = f .wrong })
+    pub a-sign : (f : Front) (b : ℕ) → here text (f .at) ≡ b → b < 256 → Segment text n v f (sign b ∷ []) (passed f)
     unfolding textOf rangeReply
     a-sign f b e h =
         record {

@@ -2,7 +2,7 @@
 -- Assumes nothing.
 use mathlib.Core.Path.{_≡_, refl, sym, ap, _∙_, subst}
 use mathlib.Core.Logic.{_≢_}
-use mathlib.Core.List.{List, [], _∷_, _++_}
+use mathlib.Core.List.{List, [], _∷_}
 use Prim.Native.Nat.{ℕ, _+_, _<_, _≤_}
 use native.Mathlib.Omega.{arith}
 use lib.Dec.{ltb}
@@ -12,7 +12,7 @@ use Rattle.replies.specs.Replies.{unless, firstRefusal}
 use Rattle.meaning.specs.Picture.Fact.{has-kind}
 use Rattle.terms.specs.Term.{at-sign, colon, equals, greater, textOf}
 use Rattle.terms.specs.Term.Written.{unwritten, written}
-use Rattle.terms.specs.Term.Token.{sign, joint, kind, link}
+use Rattle.terms.specs.Term.Token.{joint, kind, link}
 use Rattle.terms.specs.Language.{NoTerm}
 use Rattle.terms.specs.Machine.{here, isDigit}
 use Rattle.terms.specs.Machine.Role.{of-joint, of-kind}
@@ -20,13 +20,13 @@ use Rattle.term_reading.specs.declared.Front.{Front}
 use Rattle.term_reading.specs.declared.Numbered.the-variants as numbered-answer
 use Rattle.term_reading.specs.declared.Step.the-variants as step-answer
 use Rattle.term_reading.specs.ReadTerm.{longestText}
-use Rattle.term_reading.specs.Reading.{Told, NumberRead, Sound, wrongReply, Said, leadFacts, JointStep, LinkStep, KindStep, KindRead}
+use Rattle.term_reading.specs.Reading.{Told, NumberRead, Sound, wrongReply, Said, leadFacts, JointStep, LinkStep, KindStep}
 use Rattle.term_reading.specs.Reading.{KindMissing, HeadRead, Awaited}
 use Rattle.term_reading.specs.declared.Lead.{Lead}
-use Rattle.term_reading.proofs.Segments.{no-tokens, then, a-sign, a-number, within}
+use Rattle.term_reading.proofs.Segments.{passed, no-tokens, then, a-sign, a-number, within}
 use Rattle.term_reading.proofs.Facts.{nothing-said}
-use Rattle.term_reading.proofs.Contexts.{stuck-at-kind}
-use Rattle.term_reading.proofs.Terms.{passed, with-facts, led-sound, head-read}
+use Rattle.term_reading.proofs.Contexts.{spans, stuck-at-kind}
+use Rattle.term_reading.proofs.Terms.{with-facts, led-sound, head-read}
 
 -- an answer that is known
 pub known : {Answer : Type 0} {Holds : Answer → Type 0} {answer x : Answer} → Told Holds answer → answer ≡ x → Holds x
@@ -49,7 +49,9 @@ module _ (text : List ℕ) (from : Front) (sound : Sound text from) where
     λ n.
         record {
           short = r .short;
-          segment = then n v text (a-sign n v text from at-sign h (omega arith)) (a-number n v text (passed from) (joint x) x v end wrong (from .facts) r refl refl w);
+          segment =
+              then n v text (a-sign n v text from at-sign h (omega arith))
+              (a-number n v text (passed from) (joint x) x v end wrong (from .facts) r refl refl w);
           facts = refl;
           sound = record { inside = r .inside; few = omega (arith, sound .few, r .ends) };
         },
@@ -95,7 +97,9 @@ module _ (text : List ℕ) (from : Front) (sound : Sound text from) where
       record {
         written = written x;
         short = r .short;
-        segment = then n v text (a-sign n v text from colon h (omega arith)) (a-number n v text (passed from) (kind x) x n end wrong facts r refl refl w);
+        segment =
+            then n v text (a-sign n v text from colon h (omega arith))
+            (a-number n v text (passed from) (kind x) x n end wrong facts r refl refl w);
         said = said;
         ended = λ around. r .ended of-kind around;
         sound = record { inside = r .inside; few = omega (arith, sound .few, r .ends, said .counted) };
@@ -122,5 +126,5 @@ module _
     pub head-stuck : (p around : ℕ) → KindMissing text (behind .at) p → Awaited text around (from .at) → NoTerm text p
     head-stuck p around m w =
         subst (NoTerm text) (sym (m .behind))
-        (stuck-at-kind text around (from .at) w j (behind .at) (joint-answer .0 0 .short) (record { is = joint-answer .0 0 .segment .spelled }) (m .stands)
+        (stuck-at-kind text around (from .at) w j (behind .at) (joint-answer .0 0 .short) (spans (joint-answer .0 0 .segment)) (m .stands)
         (joint-answer .1 around) (ap (λ (k : ℕ). isDigit (here text k)) (sym (m .behind)) ∙ m .missing))

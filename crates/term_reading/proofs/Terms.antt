@@ -10,7 +10,7 @@ use native.Mathlib.Numerals.{add-one}
 use lib.ListN.{length, length-append}
 use Rattle.meaning.specs.Picture.{Fact}
 use Rattle.decimals.specs.Decimal.{decimal}
-use Rattle.terms.specs.Term.{Written, Term, Arguments, Token, opening, closing, comma, equals, greater}
+use Rattle.terms.specs.Term.{Written, Token, opening, closing, comma, equals, greater}
 use Rattle.terms.specs.Term.{kindTokens, headTokens, linkTokens, termTokens, argumentTokens, textOf}
 use Rattle.terms.specs.Term.Written.{unwritten, written}
 use Rattle.terms.specs.Term.Term.{bare, bracketed}
@@ -18,122 +18,123 @@ use Rattle.terms.specs.Term.Arguments.{one, more}
 use Rattle.terms.specs.Term.Token.{sign}
 use Rattle.terms.specs.Language.{Fits, NoTerm, deepest}
 use Rattle.terms.specs.Facts.{jointOf, kindFacts, termFacts, argumentFacts}
-use Rattle.terms.specs.Machine.{here, step, behindNumber, behindHead, behindTerm, digitsLeft, endOfHead}
-use Rattle.terms.specs.Machine.Role.{of-joint, of-kind}
+use Rattle.terms.specs.Machine.{here, step, behindNumber, behindHead, digitsLeft, endOfHead}
+use Rattle.terms.specs.Machine.Role.{of-joint}
 use Rattle.terms.specs.Machine.Phase.{digits}
 use Rattle.terms.specs.Machine.State.{live}
+use Rattle.terms.proofs.Running.{no-colon, kind-behind, no-bracket}
 use Rattle.term_reading.specs.declared.Front.{Front}
 use Rattle.term_reading.specs.declared.Lead.{Lead}
 use Rattle.term_reading.specs.declared.Lead.the-variants as lead-case
 use Rattle.term_reading.specs.declared.Step.{Step}
 use Rattle.term_reading.specs.declared.Step.the-variants as step-answer
-use Rattle.term_reading.specs.Reading.{Sound, Segment, factsRoom, Said, leadFacts, Awaited, ArgumentsAwaited, NumberedRead, jointTokens, KindEnded, KindRead}
+use Rattle.term_reading.specs.Reading.{Sound, Segment, Said, leadFacts, Awaited, ArgumentsAwaited, NumberedRead, jointTokens, KindEnded, KindRead}
 use Rattle.term_reading.specs.Reading.{HeadRead, TermRead, ArgumentsRead, TermStep, ArgumentsStep}
-use Rattle.term_reading.proofs.Segments.{then, a-sign}
+use Rattle.term_reading.proofs.Segments.{passed, then, a-sign}
 use Rattle.term_reading.proofs.Facts.{said-then}
-use Rattle.term_reading.proofs.Contexts.{no-colon, kind-behind, no-bracket, arguments-awaited, stuck-at-depth, inner-awaited, next-awaited, stuck-behind-argument}
+use Rattle.term_reading.proofs.Contexts.{spans, arguments-awaited, stuck-at-depth, inner-awaited, next-awaited, stuck-behind-argument}
 
 -- a front with other facts
 abbrev pub with-facts : Front → ℕ → Front
 with-facts f facts = record { at = f .at; facts = facts; wrong = f .wrong }
 
--- and one behind a sign more
-abbrev pub passed : Front → Front
-passed f = record { at = f .at + 1; facts = f .facts; wrong = f .wrong }
-
 module _ {text : List ℕ} {n v : ℕ} {from : Front} where
   -- how many facts there are is no matter of the text
-  pub counted : {end : Front} {xs : List Token} (facts : ℕ) → Segment text n v from xs end → Segment text n v from xs (with-facts end facts)
-  counted facts s = record { spelled = s .spelled; ends = s .ends; inside = s .inside; range = s .range }
-
-  pub from-counted : {end : Front} {xs : List Token} (facts : ℕ) → Segment text n v (with-facts from facts) xs end → Segment text n v from xs end
+  from-counted : {end : Front} {xs : List Token} (facts : ℕ) → Segment text n v (with-facts from facts) xs end → Segment text n v from xs end
   from-counted facts s = record { spelled = s .spelled; ends = s .ends; inside = s .inside; range = s .range }
 
 -- the head of a term: its joint, the fact that leads to it, and its kind
-module _ (text : List ℕ) (n v : ℕ) (lead : Lead) (from : Front) (s : List ℕ) (j : ℕ) (behind : Front) (joint-read : NumberedRead text n v jointTokens from j behind) where
-  few-led : (facts : ℕ) {t : List ℕ} → from .facts ≤ from .at → Said (leadFacts lead j) (behind .facts) s facts t → Sound text (with-facts behind facts)
-  unfolding textOf
-  few-led facts few said = record { inside = joint-read .segment .inside; few = omega (arith, joint-read .segment .ends, said .counted, joint-read .facts, one-lead lead) }
-    where
-      one-lead : (x : Lead) → length (leadFacts x j) ≤ 1
-      one-lead lead-case.Outermost = omega arith
-      one-lead (lead-case.Argument a l) = omega arith
+module _
+    (text : List ℕ) (n v : ℕ) (lead : Lead) (from : Front) (s : List ℕ) (j : ℕ) (behind : Front)
+    (joint-read : NumberedRead text n v jointTokens from j behind)
+  where
+    pub led-sound : (facts : ℕ) {t : List ℕ} → Sound text from → Said (leadFacts lead j) (behind .facts) s facts t → Sound text (with-facts behind facts)
+    unfolding textOf
+    led-sound facts sound said =
+        let segment = joint-read .segment in
+        record { inside = segment .inside; few = omega (arith, sound .few, segment .ends, said .counted, joint-read .facts, one-lead lead) }
+      where
+        one-lead : (x : Lead) → length (leadFacts x j) ≤ 1
+        one-lead lead-case.Outermost = omega arith
+        one-lead (lead-case.Argument a l) = omega arith
 
-  pub led-sound : (facts : ℕ) {t : List ℕ} → Sound text from → Said (leadFacts lead j) (behind .facts) s facts t → Sound text (with-facts behind facts)
-  led-sound facts sound said = few-led facts (sound .few) said
+    module _
+        (digits-end :
+        (around : ℕ) →
+        step (live around (digits of-joint (digitsLeft j))) (here text (behind .at)) ≡ behindNumber of-joint around (here text (behind .at)))
+        (facts : ℕ) {t u : List ℕ} (led : Said (leadFacts lead j) (behind .facts) s facts t) (end : Front)
+        (kind-read : KindRead text n v j (with-facts behind facts) t end u)
+      where
+        head-ended : (w : Written) → KindEnded text w (end .at) → Segment text n v (with-facts behind facts) (kindTokens w) end → (around : ℕ) →
+            step (live around (endOfHead j w)) (here text (end .at)) ≡ behindHead around (here text (end .at))
+        unfolding textOf
+        head-ended unwritten e segment around =
+            let here-same : here text (end .at) ≡ here text (behind .at) = ap (here text) (segment .ends ∙ add-zero (behind .at)) in
+            ap (step (live around (digits of-joint (digitsLeft j)))) here-same ∙ digits-end around ∙ ap (behindNumber of-joint around) (sym here-same)
+            ∙ no-colon around (here text (end .at)) e
+        head-ended (written k) e segment around = e around ∙ kind-behind around (here text (end .at))
 
-  module _
-      (digits-end : (around : ℕ) → step (live around (digits of-joint (digitsLeft j))) (here text (behind .at)) ≡ behindNumber of-joint around (here text (behind .at)))
-      (facts : ℕ) {t u : List ℕ} (led : Said (leadFacts lead j) (behind .facts) s facts t) (end : Front)
-      (kind-read : KindRead text n v j (with-facts behind facts) t end u)
-    where
-      head-ended : (w : Written) → KindEnded text w (end .at) → Segment text n v (with-facts behind facts) (kindTokens w) end → (around : ℕ) →
-          step (live around (endOfHead j w)) (here text (end .at)) ≡ behindHead around (here text (end .at))
-      unfolding textOf
-      head-ended unwritten e segment around =
-          let here-same : here text (end .at) ≡ here text (behind .at) = ap (here text) (segment .ends ∙ add-zero (behind .at)) in
-          ap (step (live around (digits of-joint (digitsLeft j)))) here-same ∙ digits-end around ∙ ap (behindNumber of-joint around) (sym here-same)
-          ∙ no-colon around (here text (end .at)) e
-      head-ended (written k) e segment around = e around ∙ kind-behind around (here text (end .at))
-
-      pub head-read : HeadRead text n v lead from s j end u
-      head-read =
-          record {
-            written = kind-read .written;
-            joint-short = joint-read .short;
-            kind-short = kind-read .short;
-            segment = then n v text (joint-read .segment) (from-counted facts (kind-read .segment));
-            ended = head-ended (kind-read .written) (kind-read .ended) (kind-read .segment);
-            said = said-then (subst (λ (k : ℕ). Said (leadFacts lead j) k s facts t) (joint-read .facts) led) (kind-read .said);
-            sound = kind-read .sound;
-          }
+        pub head-read : HeadRead text n v lead from s j end u
+        head-read =
+            record {
+              written = kind-read .written;
+              joint-short = joint-read .short;
+              kind-short = kind-read .short;
+              segment = then n v text (joint-read .segment) (from-counted facts (kind-read .segment));
+              ended = head-ended (kind-read .written) (kind-read .ended) (kind-read .segment);
+              said = said-then (subst (λ (k : ℕ). Said (leadFacts lead j) k s facts t) (joint-read .facts) led) (kind-read .said);
+              sound = kind-read .sound;
+            }
 
 -- a term, from its head
-module _ (text : List ℕ) (n v around : ℕ) (lead : Lead) (from : Front) (s : List ℕ) (j : ℕ) (behind : Front) (t : List ℕ) (head : HeadRead text n v lead from s j behind t) where
-  no-level : around < deepest → around + 0 ≡ deepest → ⊥
-  no-level h e = omega (arith, h, e)
+module _
+    (text : List ℕ) (n v around : ℕ) (lead : Lead) (from : Front) (s : List ℕ) (j : ℕ) (behind : Front) (t : List ℕ)
+    (head : HeadRead text n v lead from s j behind t)
+  where
+    no-level : around < deepest → around + 0 ≡ deepest → ⊥
+    no-level h e = omega (arith, h, e)
 
-  pub bare-read : around < deepest → here text (behind .at) ≢ opening → TermRead text n v around lead from s behind t
-  unfolding termTokens termFacts
-  bare-read shallow h =
-      record {
-        t = bare j (head .written);
-        fits = bare-fits;
-        segment = head .segment;
-        ended = head .ended around ∙ no-bracket around (here text (behind .at)) h;
-        said = head .said;
-        sound = head .sound;
-      }
-    where
-      bare-fits : (levels : ℕ) → around + levels ≡ deepest → Fits (bare j (head .written)) levels
-      bare-fits zero e = no-level shallow e
-      bare-fits (suc levels) e = (head .joint-short, head .kind-short)
+    pub bare-read : around < deepest → here text (behind .at) ≢ opening → TermRead text n v around lead from s behind t
+    unfolding termTokens termFacts
+    bare-read shallow h =
+        record {
+          t = bare j (head .written);
+          fits = bare-fits;
+          segment = head .segment;
+          ended = head .ended around ∙ no-bracket around (here text (behind .at)) h;
+          said = head .said;
+          sound = head .sound;
+        }
+      where
+        bare-fits : (levels : ℕ) → around + levels ≡ deepest → Fits (bare j (head .written)) levels
+        bare-fits zero e = no-level shallow e
+        bare-fits (suc levels) e = (head .joint-short, head .kind-short)
 
-  pub bracketed-read : {end : Front} {u : List ℕ} → around < deepest → here text (behind .at) ≡ opening →
-      ArgumentsRead text n v around j (passed behind) t end u → TermRead text n v around lead from s end u
-  unfolding termTokens termFacts step
-  bracketed-read {end = end} {u = u} shallow h r =
-      record {
-        t = bracketed j (head .written) (r .args);
-        fits = bracketed-fits;
-        segment =
-            subst (λ (ks : List Token). Segment text n v from ks end) tokens
-            (then n v text (head .segment) (then n v text (a-sign n v text behind opening h (omega arith)) (r .segment)));
-        ended = refl;
-        said =
-            subst (λ (fs : List (Fact ℕ)). Said fs (from .facts) s (end .facts) u)
-            (append-assoc (leadFacts lead j) (kindFacts j (head .written)) (argumentFacts (r .args) j)) (said-then (head .said) (r .said));
-        sound = r .sound;
-      }
-    where
-      bracketed-fits : (levels : ℕ) → around + levels ≡ deepest → Fits (bracketed j (head .written) (r .args)) levels
-      bracketed-fits zero e = no-level shallow e
-      bracketed-fits (suc levels) e = (head .joint-short, head .kind-short, r .fits levels e)
+    pub bracketed-read : {end : Front} {u : List ℕ} → around < deepest → here text (behind .at) ≡ opening →
+        ArgumentsRead text n v around j (passed behind) t end u → TermRead text n v around lead from s end u
+    unfolding termTokens termFacts step
+    bracketed-read {end = end} {u = u} shallow h r =
+        record {
+          t = bracketed j (head .written) (r .args);
+          fits = bracketed-fits;
+          segment =
+              subst (λ (ks : List Token). Segment text n v from ks end) tokens
+              (then n v text (head .segment) (then n v text (a-sign n v text behind opening h (omega arith)) (r .segment)));
+          ended = refl;
+          said =
+              subst (λ (fs : List (Fact ℕ)). Said fs (from .facts) s (end .facts) u)
+              (append-assoc (leadFacts lead j) (kindFacts j (head .written)) (argumentFacts (r .args) j)) (said-then (head .said) (r .said));
+          sound = r .sound;
+        }
+      where
+        bracketed-fits : (levels : ℕ) → around + levels ≡ deepest → Fits (bracketed j (head .written) (r .args)) levels
+        bracketed-fits zero e = no-level shallow e
+        bracketed-fits (suc levels) e = (head .joint-short, head .kind-short, r .fits levels e)
 
-      tokens :
-          headTokens j (head .written) ++ (sign opening ∷ (argumentTokens (r .args) ++ sign closing ∷ [])) ≡
-          headTokens j (head .written) ++ sign opening ∷ argumentTokens (r .args) ++ sign closing ∷ []
-      tokens = sym (append-assoc (headTokens j (head .written)) (sign opening ∷ argumentTokens (r .args)) (sign closing ∷ []))
+        tokens :
+            headTokens j (head .written) ++ (sign opening ∷ (argumentTokens (r .args) ++ sign closing ∷ [])) ≡
+            headTokens j (head .written) ++ sign opening ∷ argumentTokens (r .args) ++ sign closing ∷ []
+        tokens = sym (append-assoc (headTokens j (head .written)) (sign opening ∷ argumentTokens (r .args)) (sign closing ∷ []))
 
 -- one argument of joint j, and what stands behind it
 module _
@@ -151,12 +152,12 @@ module _
         subst (λ (k : ℕ). Said (leadFacts (lead-case.Argument j l) (jointOf (term-read .t)) ++ termFacts (term-read .t)) k s (end .facts) t)
         (link-read .facts) (term-read .said)
 
-    pub passed-sound : (b : ℕ) → here text (end .at) ≡ b → b < 256 → Sound text (passed end)
+    passed-sound : (b : ℕ) → here text (end .at) ≡ b → b < 256 → Sound text (passed end)
     passed-sound b h small =
         record { inside = a-sign n v text end b h small .inside; few = omega (arith, term-read .sound .few) }
 
     -- the last one
-    pub last-read : here text (end .at) ≡ closing → ArgumentsRead text n v around j front s (passed end) t
+    last-read : here text (end .at) ≡ closing → ArgumentsRead text n v around j front s (passed end) t
     unfolding argumentTokens argumentFacts
     last-read h =
         record {
@@ -168,7 +169,7 @@ module _
         }
 
     -- one with others behind it
-    pub another-read : {last : Front} {u : List ℕ} → here text (end .at) ≡ comma → ArgumentsRead text n v around j (passed end) t last u →
+    another-read : {last : Front} {u : List ℕ} → here text (end .at) ≡ comma → ArgumentsRead text n v around j (passed end) t last u →
         ArgumentsRead text n v around j front s last u
     unfolding argumentTokens argumentFacts
     another-read {last = last} {u = u} h r =
@@ -211,7 +212,7 @@ module _
     -- the term of an argument may stand behind its link
     pub inner-term : Awaited text (suc around) (inner .at)
     inner-term =
-        inner-awaited text around (front .at) (g .awaited) l (inner .at) (link-read .short) (record { is = link-read .segment .spelled })
+        inner-awaited text around (front .at) (g .awaited) l (inner .at) (link-read .short) (spans (link-read .segment))
 
     -- every call is nearer to the end of the text
     pub inner-nearer : length text - inner .at < length text - from .at
@@ -229,8 +230,8 @@ module _
             forward = omega (arith, g .forward, link-read .segment .ends, term-read .segment .ends);
             size = term-read .said .size ∙ g .size;
             awaited =
-                next-awaited text around (front .at) (g .awaited) l (inner .at) (link-read .short) (record { is = link-read .segment .spelled })
-                (term-read .t) (end .at) (term-read .sound .inside) (term-read .fits) (record { is = term-read .segment .spelled }) (term-read .ended) h;
+                next-awaited text around (front .at) (g .awaited) l (inner .at) (link-read .short) (spans (link-read .segment))
+                (term-read .t) (end .at) (term-read .sound .inside) (term-read .fits) (spans (term-read .segment)) (term-read .ended) h;
             whole = λ last w r. g .whole last w (another-read text n v around j front t l inner link-read end u term-read h r);
           }
 
@@ -244,8 +245,8 @@ module _
 
       pub breaks-off : here text (end .at) ≢ comma → here text (end .at) ≢ closing → NoTerm text (end .at)
       breaks-off h k =
-          stuck-behind-argument text around (front .at) (g .awaited) l (inner .at) (link-read .short) (record { is = link-read .segment .spelled })
-          (term-read .t) (end .at) (term-read .sound .inside) (term-read .fits) (record { is = term-read .segment .spelled }) (term-read .ended) h k
+          stuck-behind-argument text around (front .at) (g .awaited) l (inner .at) (link-read .short) (spans (link-read .segment))
+          (term-read .t) (end .at) (term-read .sound .inside) (term-read .fits) (spans (term-read .segment)) (term-read .ended) h k
 
 -- one level deeper, as the code counts it
 pub deeper : {text : List ℕ} {n v around j l : ℕ} {inner : Front} {t : List ℕ} {end : Front} {u : List ℕ} →
@@ -268,7 +269,7 @@ module _
     pub next-awaited-arguments : around ≢ 15 → ArgumentsAwaited text around (next .at)
     next-awaited-arguments d =
         subst (λ (f : Front). ArgumentsAwaited text around (f .at)) (sym e)
-        (arguments-awaited text around (from .at) w j (head .written) (behind .at) (head .joint-short) (head .kind-short) (record { is = head .segment .spelled }) h
+        (arguments-awaited text around (from .at) w j (head .written) (behind .at) (head .joint-short) (head .kind-short) (spans (head .segment)) h
         (head .ended around) d)
 
     pub arguments-nearer : length text - next .at < length text - from .at
@@ -282,5 +283,5 @@ module _
 pub too-deep : {text : List ℕ} {n v around : ℕ} {lead : Lead} {from : Front} {s : List ℕ} {j : ℕ} {behind : Front} {t : List ℕ} →
     Awaited text around (from .at) → HeadRead text n v lead from s j behind t → here text (behind .at) ≡ opening → around ≡ 15 → NoTerm text (behind .at)
 too-deep {text = text} {around = around} {from = from} {j = j} {behind = behind} w head h e =
-    stuck-at-depth text around (from .at) w j (head .written) (behind .at) (head .joint-short) (head .kind-short) (record { is = head .segment .spelled }) h
+    stuck-at-depth text around (from .at) w j (head .written) (behind .at) (head .joint-short) (head .kind-short) (spans (head .segment)) h
     (head .ended around) e

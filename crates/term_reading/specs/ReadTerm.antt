@@ -32,7 +32,7 @@ mostFacts = 1088
 unfoldable pub readTermRefusal : List ℕ → List ℕ → Reply
 readTermRefusal b text = firstRefusal (unless (leb (length text) longestText) BadSize 0 ∷ []) (blockReply b)
 
--- the packet that a term becomes, for v joints
+-- the packet that a term of at most 1,088 facts becomes, for v joints
 abbrev pub termPacket : ℕ → Term → List ℕ
 termPacket v t = factsPacket v (map (rename rigJoint) (termFacts t))
 

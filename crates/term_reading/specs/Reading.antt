@@ -11,17 +11,17 @@ use Rattle.replies.specs.declared.Cause.the-variants.{OutOfRange, NoTerm as no-
 use Rattle.replies.specs.declared.Reply.{Reply}
 use Rattle.replies.specs.declared.Reply.the-variants.{Done, Refused}
 use Rattle.replies.specs.Replies.{firstRefusal}
-use Rattle.meaning.specs.Picture.{Fact, rename}
+use Rattle.meaning.specs.Picture.{Fact}
 use Rattle.meaning.specs.Picture.Fact.{leads}
-use Rattle.meaning.specs.Form.{rigJoint}
-use Rattle.packets.specs.FactsPacket.{allBytes}
+use Rattle.writing.specs.Putting.{formBytes}
 use Rattle.decimals.specs.Decimal.{decimal}
-use Rattle.terms.specs.Term.{Written, Term, Arguments, Token, at-sign, colon, closing, kindTokens, headTokens, linkTokens, termTokens, argumentTokens, textOf, termText}
+use Rattle.terms.specs.Term.{Written, Term, Arguments, Token, at-sign, colon, closing}
+use Rattle.terms.specs.Term.{kindTokens, headTokens, linkTokens, termTokens, argumentTokens, textOf, termText}
 use Rattle.terms.specs.Term.Written.{unwritten, written}
 use Rattle.terms.specs.Term.Token.{sign, joint}
 use Rattle.terms.specs.Language.{Short, KindShort, Fits, ArgumentsFit, deepest, Reading, Begun, NoTerm}
 use Rattle.terms.specs.Facts.{jointOf, kindFacts, termFacts, argumentFacts}
-use Rattle.terms.specs.Machine.{Role, Phase, State, here, isDigit, step, run, start, behindNumber, behindHead, behindTerm, digitsLeft, endOf, endOfHead}
+use Rattle.terms.specs.Machine.{Role, here, isDigit, step, run, start, behindNumber, behindHead, behindTerm, digitsLeft, endOf, endOfHead}
 use Rattle.terms.specs.Machine.Role.{of-joint, of-kind, of-link}
 use Rattle.terms.specs.Machine.Phase.{awaiting, number, digits}
 use Rattle.terms.specs.Machine.State.{live}
@@ -77,7 +77,7 @@ low x = x % 256
 
 -- the bytes of facts, as a packet has them where every number is below 256
 abbrev pub lowBytes : List (Fact ℕ) → List ℕ
-lowBytes fs = map low (allBytes (map (rename rigJoint) fs))
+lowBytes fs = map low (formBytes fs)
 
 -- the room for the facts of a packet
 abbrev pub factsRoom : ℕ

@@ -1,6 +1,6 @@
 // Reading a rig typed as a term. The term reader and the argument reader call each other, at most 16 deep; the arguments of one term follow
-// one another in a loop, so that the stack does not grow with the text. The whole text is read before the first reply is known, so facts go
-// into an array as long as a packet has room for them, and are counted alone from there on.
+// one another in a loop, so that the stack does not grow with the text. Whether 21, 22 or 12 fits is known at the end of the text alone, since
+// 20 goes before them: so facts go into an array as long as a packet has room for them, and are counted alone from there on.
 ghost use mathlib.Core.Path.{_≡_};
 ghost use mathlib.Core.Logic.{_≢_};
 ghost use mathlib.Core.List.{[], _∷_};

@@ -49,14 +49,18 @@ unfolding termFacts
 with-facts j s [] = sym (append-nil (kindFacts j s))
 with-facts j s (a ∷ items) = ap (λ (x : List (Fact ℕ)). kindFacts j s ++ x) (listed-facts j (a .0) (a .1) items)
 
+-- links are below 16, and something holds of each term
+abbrev pub EachItem : (Term → Type 0) → Items → Type 0
+EachItem Q [] = Unit {0}
+EachItem Q (a ∷ items) = (a .0 < 16) × Q (a .1) × EachItem Q items
+
 -- a term fits where its items do
 abbrev pub ItemsFit : Items → ℕ → Type 0
-ItemsFit [] depth = Unit {0}
-ItemsFit (a ∷ items) depth = Short (a .0) × Fits (a .1) depth × ItemsFit items depth
+ItemsFit items depth = EachItem (λ t. Fits t depth) items
 
-listed-fit : (l : ℕ) (t : Term) (items : Items) (depth : ℕ) → Short l → Fits t depth → ItemsFit items depth → ArgumentsFit (listed l t items) depth
-listed-fit l t [] depth h f g = (h, f)
-listed-fit l t (a ∷ items) depth h f g = (h, f, listed-fit (a .0) (a .1) items depth (g .0) (g .1) (g .2))
+listed-fit : (l : ℕ) (t : Term) (items : Items) (depth : ℕ) → l < 16 → Fits t depth → ItemsFit items depth → ArgumentsFit (listed l t items) depth
+listed-fit l t [] depth h f g = (omega arith, f)
+listed-fit l t (a ∷ items) depth h f g = (omega arith, f, listed-fit (a .0) (a .1) items depth (g .0) (g .1) (g .2))
 
 pub with-fits :
     (j : ℕ) (s : Written) (items : Items) (depth : ℕ) → Short j → KindShort s → ItemsFit items depth → Fits (termWith j s items) (suc depth)
@@ -96,8 +100,7 @@ module _ (n v : ℕ) where
     ArgumentsRanged (more l t args) = (l < 16) × Ranged t × ArgumentsRanged args
 
   abbrev pub ItemsRanged : Items → Type 0
-  ItemsRanged [] = Unit {0}
-  ItemsRanged (a ∷ items) = (a .0 < 16) × Ranged (a .1) × ItemsRanged items
+  ItemsRanged items = EachItem Ranged items
 
   listed-ranged : (l : ℕ) (t : Term) (items : Items) → l < 16 → Ranged t → ItemsRanged items → ArgumentsRanged (listed l t items)
   listed-ranged l t [] h r g = (h, r)
@@ -125,20 +128,11 @@ module _ (S : Form) (termOf : ℕ → Term) (j : ℕ) where
   abbrev pub AtLinks : (Term → Type 0) → Type 0
   AtLinks Q = (l : ℕ) → l < 16 → S .link j l ≢ unknown → Q (termOf (S .link j l))
 
-  pub items-fit : (depth : ℕ) → AtLinks (λ t. Fits t depth) → (l count : ℕ) → l + count ≤ 16 → ItemsFit (items l count) depth
+  pub each-item : (Q : Term → Type 0) → AtLinks Q → (l count : ℕ) → l + count ≤ 16 → EachItem Q (items l count)
   unfolding linkTerms
-  items-fit depth f l zero h = tt
-  items-fit depth f l (suc count) h =
-      let rest = items-fit depth f (suc l) count (omega arith) in
-      by-cases (ℕ-discrete (S .link j l) unknown)
-      (λ e. rw (unknown-next l count e) rest)
-      (λ d. rw (known-next l count d) (omega arith, f l (omega arith) d, rest))
-
-  pub items-ranged : (n v : ℕ) → AtLinks (Ranged n v) → (l count : ℕ) → l + count ≤ 16 → ItemsRanged n v (items l count)
-  unfolding linkTerms
-  items-ranged n v f l zero h = tt
-  items-ranged n v f l (suc count) h =
-      let rest = items-ranged n v f (suc l) count (omega arith) in
+  each-item Q f l zero h = tt
+  each-item Q f l (suc count) h =
+      let rest = each-item Q f (suc l) count (omega arith) in
       by-cases (ℕ-discrete (S .link j l) unknown)
       (λ e. rw (unknown-next l count e) rest)
       (λ d. rw (known-next l count d) (omega arith, f l (omega arith) d, rest))
@@ -198,7 +192,7 @@ module _ (S : Form) (termOf : ℕ → Term) (j : ℕ) where
         (λ e. rw (unknown-next l count e) m)
         (λ d. rw (next-facts l count d) (List·Memᴰ·tail (Memᴰ·append-right (termFacts (termOf (S .link j l))) m)))
 
-    pub item-member : {f : Fact ℕ} (l count : ℕ) → l + count ≡ 16 → ItemFact l f → List·Memᴰ f (itemFacts j (items l count))
+    item-member : {f : Fact ℕ} (l count : ℕ) → l + count ≡ 16 → ItemFact l f → List·Memᴰ f (itemFacts j (items l count))
     item-member l zero h (own i from below known e) = absurd (omega arith)
     item-member l zero h (inner i from below known m) = absurd (omega arith)
     item-member l (suc count) h (own i from below known e) =
@@ -254,9 +248,14 @@ module _ (S : Form) (j : ℕ) where
     pub link-member : {f : Fact ℕ} → ItemFact S below j 0 f → List·Memᴰ f (termFacts (termFrom S (suc depth) j))
     link-member i = rw from-facts (Memᴰ·append-right kindFactsAt (item-member S below j (from-joint S depth) 0 16 refl i))
 
+-- what holds of a kind as it is written: it is left out, or it is not 1
+pub of-kind-written : (P : Written → Type 0) (s : ℕ) → P unwritten → (s ≢ 1 → P (written s)) → P (kindWritten s)
+of-kind-written P s left-out said =
+    by-cases (ℕ-discrete s 1) (λ e. rw (eq-eqb _ _ e) left-out) (λ d. rw (ne-eqb _ _ d) (said d))
+
 -- kinds but 1 are written, links rise
 kind-but-1 : (s : ℕ) → KindBut1 (kindWritten s)
-kind-but-1 s = by-cases (ℕ-discrete s 1) (λ e. rw (eq-eqb _ _ e) tt) (λ d. rw (ne-eqb _ _ d) d)
+kind-but-1 s = of-kind-written KindBut1 s tt (λ d. d)
 
 pub from-rises : (S : Form) (depth j : ℕ) → Rising (termFrom S depth j)
 unfolding termFrom

@@ -15,17 +15,8 @@ use Rattle.terms.specs.Term.Term.{bare, bracketed}
 use Rattle.terms.specs.Term.Arguments.{one, more}
 use Rattle.terms.specs.Language.{KindShort, Fits, ArgumentsFit}
 use Rattle.terms.specs.Facts.{kindFacts, termFacts, argumentFacts}
-use Rattle.terms.proofs.Numbers.{digits-of}
-use Rattle.terms.proofs.Numbers.Digits.{single, double, triple}
+use Rattle.terms.proofs.Numbers.{three-at-most}
 use Rattle.terms.proofs.Running.{text-append, bracketed-text}
-
-three-at-most : (x : ℕ) → x < 1000 → length (decimal x) ≤ 3
-three-at-most x h =
-    elim (digits-of x h) [
-      | single g e ↦ rw e (omega arith)
-      | double a b p g f q e ↦ rw e (omega arith)
-      | triple a b c p g f i q e ↦ rw e (omega arith)
-    ]
 
 appended : (x y : List Token) → length (textOf (x ++ y)) ≡ length (textOf x) + length (textOf y)
 appended x y = ap length (text-append x y) ∙ length-append (textOf x) (textOf y)

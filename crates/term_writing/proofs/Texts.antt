@@ -3,42 +3,31 @@
 -- Assumes nothing.
 use mathlib.Core.Path.{_≡_, refl, sym, ap, _∙_}
 use mathlib.Core.Logic.{by-cases}
-use mathlib.Core.Bool.{Bool, true, false, cond}
+use mathlib.Core.Bool.{cond}
 use mathlib.Core.List.{List, [], _∷_, _++_, append-assoc, append-nil}
-use Prim.Native.Nat.{ℕ, zero, suc, _+_, _/_, _%_, _<_, _≤_}
+use Prim.Native.Nat.{ℕ, zero, suc, _+_, _*_, _/_, _%_, _<_, _≤_}
 use native.Mathlib.Omega.{arith}
-use native.Mathlib.Decide.{decLt, ℕ-discrete}
-use native.Mathlib.Nat.{div-add-mod'}
+use native.Mathlib.Decide.{ℕ-discrete}
 use lib.Dec.{eqb}
-use lib.ListN.{length, set, take, drop, length-append, length-take, length-set}
-use lib.Seq.{sets-eq, take-at, drop-at}
+use lib.ListN.{length, length-append}
 use borrow.Author.Tests.{eq-eqb, ne-eqb}
 use Rattle.decimals.specs.Decimal.{digit, decimal}
-use Rattle.decimals.proofs.Decimals.{one-digit, more-digits}
+use Rattle.decimals.proofs.Decimals.{one-digit}
 use Rattle.meaning.specs.Form.{Form, unknown}
-use Rattle.terms.specs.Term.{Term, Token, headTokens, termTokens, argumentTokens, spell, textOf, termText, at-sign, colon, opening, closing, comma, equals, greater}
+use Rattle.terms.specs.Term.{Term, headTokens, termTokens, argumentTokens, textOf, termText, at-sign, colon, opening, closing, comma, equals, greater}
 use Rattle.terms.specs.Term.Token.{sign}
 use Rattle.writing.specs.Putting.{Room, Put}
-use Rattle.writing.proofs.Putting.{put-begins, put-goes-on, put-ends}
+use Rattle.terms.proofs.Numbers.{two-digits, two-at-most}
+use Rattle.terms.proofs.Running.{text-append, bracketed-text}
+use Rattle.writing.proofs.Putting.{put-begins, put-goes-on, put-ends, maybe-before}
 use Rattle.term_writing.specs.Tree.{kindWritten, listed, termWith, linkTerms, termFrom}
 use Rattle.term_writing.specs.Visiting.{kindText, headText, linkText, furtherText, argumentsText, argumentText, signBefore, closingText}
-
--- one byte, and two parts, one behind the other
-pub byte-put : (s : List ℕ) (at x : ℕ) → at + 1 ≤ length s → Put (x ∷ []) at s (set s at x) (at + 1)
-byte-put s at x h =
-    let e : set s at x ≡ (take at s ++ (x ∷ [])) ++ drop (at + 1) s = sets-eq (x ∷ []) s at h in
-    let long : length (take at s ++ (x ∷ [])) ≡ at + 1 = simp (length-append, length-take) (omega arith) in
-    record {
-      size = simp length-set;
-      ends = refl;
-      front = ap (take (at + 1)) e ∙ take-at (take at s ++ (x ∷ [])) (drop (at + 1) s) (at + 1) long;
-      behind = ap (drop (at + 1)) e ∙ drop-at (take at s ++ (x ∷ [])) (drop (at + 1) s) (at + 1) long;
-    }
 
 pub room-first : (xs ys : List ℕ) (at : ℕ) (s : List ℕ) → Room (xs ++ ys) at s → Room xs at s
 room-first xs ys at s r = omega (arith, length-append xs ys)
 
 module _ {xs : List ℕ} {at mid : ℕ} {s t : List ℕ} (p : Put xs at s t mid) where
+  -- two parts, one behind the other
   pub both-put : {ys u : List ℕ} {end : ℕ} → Put ys mid t u end → Put (xs ++ ys) at s u end
   both-put {ys} q = put-ends (put-goes-on (put-goes-on (put-begins at s refl) ys refl p) [] (sym (append-nil ys)) q) refl
 
@@ -53,14 +42,11 @@ module _ {xs : List ℕ} {at mid : ℕ} {s t : List ℕ} (p : Put xs at s t mid)
 pub put-as : {xs ys : List ℕ} {at end : ℕ} {s t : List ℕ} → xs ≡ ys → Put xs at s t end → Put ys at s t end
 put-as e p = rw e at p
 
-pub room-as : {xs ys : List ℕ} (at : ℕ) (s : List ℕ) → xs ≡ ys → Room ys at s → Room xs at s
-room-as at s e r = omega (arith, ap length e)
-
 -- a number of two digits
-pub two-digits : (x : ℕ) → 10 ≤ x → x < 100 → decimal x ≡ digit (x / 10) ∷ digit (x % 10) ∷ []
-two-digits x h g =
-    let tenth : x / 10 < 10 = omega (arith, div-add-mod' x 10) in
-    more-digits x h (omega arith) ∙ ap (λ (ds : List ℕ). ds ++ (digit (x % 10) ∷ [])) (one-digit (x / 10) tenth)
+pub from-two-digits : (x : ℕ) → 10 ≤ x → x < 100 → decimal x ≡ digit (x / 10) ∷ digit (x % 10) ∷ []
+from-two-digits x h g =
+    let e : x ≡ 10 * (x / 10) + x % 10 = omega arith in
+    ap decimal e ∙ two-digits (x / 10) (x % 10) (omega arith) (omega arith) (omega arith)
 
 module _ {x at : ℕ} {s t : List ℕ} where
   pub one-digit-put : {d end : ℕ} → x < 10 → d ≡ digit x → Put (d ∷ []) at s t end → Put (decimal x) at s t end
@@ -70,35 +56,20 @@ module _ {x at : ℕ} {s t : List ℕ} where
       {a b mid end : ℕ} {u : List ℕ} → 10 ≤ x → x < 100 → a ≡ digit (x / 10) → b ≡ digit (x % 10) →
       Put (a ∷ []) at s t mid → Put (b ∷ []) mid t u end → Put (decimal x) at s u end
   two-digits-put {a} h g e f p q =
-      put-as (ap (λ (y : ℕ). a ∷ y ∷ []) f ∙ ap (λ (y : ℕ). y ∷ digit (x % 10) ∷ []) e ∙ sym (two-digits x h g)) (both-put p q)
+      put-as (ap (λ (y : ℕ). a ∷ y ∷ []) f ∙ ap (λ (y : ℕ). y ∷ digit (x % 10) ∷ []) e ∙ sym (from-two-digits x h g)) (both-put p q)
 
-pub number-short : (x : ℕ) → x < 100 → length (decimal x) ≤ 2
-number-short x g =
-    by-cases (decLt x 10) (λ h. rw (one-digit x h) (omega arith)) (λ h. rw (two-digits x (omega arith) g) (omega arith))
-
-pub kind-left-out : (s : ℕ) → s ≡ 1 → [] ≡ kindText s
-kind-left-out s e = rw (eq-eqb s 1 e)
-
-pub kind-said : (s : ℕ) → (s ≡ 1 → ⊥) → colon ∷ decimal s ≡ kindText s
-kind-said s d = rw (ne-eqb s 1 d)
-
-pub no-closing : (from at : ℕ) → at ≡ from → [] ≡ closingText from at
-no-closing from at e = rw (eq-eqb at from e)
-
-pub some-closing : (from at : ℕ) → (at ≡ from → ⊥) → closing ∷ [] ≡ closingText from at
-some-closing from at d = rw (ne-eqb at from d)
+-- bytes that are left out where x is y are none or all
+pub none-or-all : (x y : ℕ) (bytes : List ℕ) → length (cond (eqb x y) [] bytes) ≤ length bytes
+none-or-all x y bytes = by-cases (ℕ-discrete x y) (λ e. rw (eq-eqb x y e) (omega arith)) (λ d. rw (ne-eqb x y d) (omega arith))
 
 kind-short : (s : ℕ) → s < 100 → length (kindText s) ≤ 3
-kind-short s g =
-    by-cases (ℕ-discrete s 1)
-    (λ e. rw (← kind-left-out s e) (omega arith))
-    (λ d. rw (← kind-said s d) (omega (arith, number-short s g)))
+kind-short s g = omega (arith, none-or-all s 1 (colon ∷ decimal s), two-at-most s g)
 
 pub head-short : (j s : ℕ) → j < 100 → s < 100 → length (headText j s) ≤ 6
-head-short j s hj hs = omega (arith, length-append (decimal j) (kindText s), number-short j hj, kind-short s hs)
+head-short j s hj hs = omega (arith, length-append (decimal j) (kindText s), two-at-most j hj, kind-short s hs)
 
 pub link-short : (front l : ℕ) → l < 100 → length (linkText front l) ≤ 5
-link-short front l h = omega (arith, length-append (decimal l) (equals ∷ greater ∷ []), number-short l h)
+link-short front l h = omega (arith, length-append (decimal l) (equals ∷ greater ∷ []), two-at-most l h)
 
 -- one argument more, behind another
 further-more :
@@ -130,11 +101,6 @@ module _ (from at : ℕ) where
       ∙ ap (λ (x : List ℕ). link ++ x) (sym (append-assoc term (furtherText ps) next))
       ∙ sym (append-assoc link (term ++ furtherText ps) next))
 
-text-append : (front back : List Token) → textOf (front ++ back) ≡ textOf front ++ textOf back
-unfolding textOf
-text-append [] back = refl
-text-append (k ∷ front) back = ap (λ (x : List ℕ). spell k ++ x) (text-append front back) ∙ sym (append-assoc (spell k) (textOf front) (textOf back))
-
 head-text : (j s : ℕ) → textOf (headTokens j (kindWritten s)) ≡ headText j s
 unfolding textOf
 head-text j s =
@@ -159,29 +125,18 @@ listed-text front l t (next ∷ others) =
     ∙ sym (append-assoc (decimal l) (equals ∷ greater ∷ []) (termText t ++ furtherText (next ∷ others))))
 
 -- a whole term
-pub term-text :
+term-text :
     (j s : ℕ) (ps : List (ℕ × Term)) (from at : ℕ) → at ≡ from + length (argumentsText ps) →
     headText j s ++ (argumentsText ps ++ closingText from at) ≡ termText (termWith j (kindWritten s) ps)
-unfolding termTokens textOf argumentsText
+unfolding termTokens argumentsText
 term-text j s [] from at e = rw (eq-eqb at from (omega (arith, e))) (append-nil (headText j s) ∙ sym (head-text j s))
 term-text j s (p ∷ ps) from at e =
-    let head = headTokens j (kindWritten s) in
-    let inner = argumentTokens (listed (p .0) (p .1) ps) in
+    let args = listed (p .0) (p .1) ps in
     rw (ne-eqb at from (λ q. omega (arith, e, q)))
     (sym
-    (text-append (head ++ (sign opening ∷ inner)) (sign closing ∷ [])
-    ∙ ap (λ (x : List ℕ). x ++ (closing ∷ []))
-    (text-append head (sign opening ∷ inner)
-    ∙ ap (λ (x : List ℕ). x ++ textOf (sign opening ∷ inner)) (head-text j s)
-    ∙ ap (λ (x : List ℕ). headText j s ++ x) (listed-text opening (p .0) (p .1) ps))
-    ∙ append-assoc (headText j s) (linkText opening (p .0) ++ (termText (p .1) ++ furtherText ps)) (closing ∷ [])))
-
--- an argument that a test may leave out, in front of two lists
-maybe :
-    (out : Bool) (p : ℕ × Term) (front back : List (ℕ × Term)) {rest : List (ℕ × Term)} → rest ≡ front ++ back →
-    cond out rest (p ∷ rest) ≡ cond out front (p ∷ front) ++ back
-maybe true p front back e = e
-maybe false p front back e = ap (λ (x : List (ℕ × Term)). p ∷ x) e
+    (bracketed-text j (kindWritten s) args
+    ∙ ap (λ (x : List ℕ). x ++ (opening ∷ (textOf (argumentTokens args) ++ (closing ∷ [])))) (head-text j s)
+    ∙ ap (λ (x : List ℕ). headText j s ++ (x ++ (closing ∷ []))) (listed-text opening (p .0) (p .1) ps)))
 
 module _ (S : Form) (termOf : ℕ → Term) (j : ℕ) where
   terms-split : (l a b : ℕ) → linkTerms S termOf j l (a + b) ≡ linkTerms S termOf j l a ++ linkTerms S termOf j (l + a) b
@@ -194,8 +149,10 @@ module _ (S : Form) (termOf : ℕ → Term) (j : ℕ) where
       let e : suc a + b ≡ suc (a + b) = omega arith in
       let s : suc l + a ≡ l + suc a = omega arith in
       let next = terms-split (suc l) a b ∙ ap (λ (k : ℕ). linkTerms S termOf j (suc l) a ++ linkTerms S termOf j k b) s in
+      let first : ℕ × Term = (l, termOf (S .link j l)) in
       ap (linkTerms S termOf j l) e
-      ∙ maybe (eqb (S .link j l) unknown) (l, termOf (S .link j l)) (linkTerms S termOf j (suc l) a) (linkTerms S termOf j (l + suc a) b) next
+      ∙ ap (λ (x : List (ℕ × Term)). cond (eqb (S .link j l) unknown) x (first ∷ x)) next
+      ∙ maybe-before (eqb (S .link j l) unknown) first (linkTerms S termOf j (suc l) a) (linkTerms S termOf j (l + suc a) b)
 
   -- no link yet; and one link more, which leads to c
   pub no-arguments : [] ≡ argumentsText (linkTerms S termOf j 0 0)
@@ -218,10 +175,10 @@ module _ (S : Form) (termOf : ℕ → Term) (j : ℕ) where
       (λ d. rw (split, ne-eqb c unknown d) (sym (argument-behind from at before e k (termOf c))))
 
 -- the text of a joint's term, from those of its arguments
-pub term-from :
+pub joint-text :
     (S : Form) (below j from at : ℕ) →
     at ≡ from + length (argumentsText (linkTerms S (λ c. termFrom S below c) j 0 16)) →
     headText j (S .kind j) ++ (argumentsText (linkTerms S (λ c. termFrom S below c) j 0 16) ++ closingText from at)
     ≡ termText (termFrom S (suc below) j)
 unfolding termFrom
-term-from S below j from at e = term-text j (S .kind j) (linkTerms S (λ c. termFrom S below c) j 0 16) from at e
+joint-text S below j from at e = term-text j (S .kind j) (linkTerms S (λ c. termFrom S below c) j 0 16) from at e

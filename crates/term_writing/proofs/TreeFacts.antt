@@ -2,17 +2,16 @@
 -- facts stand in the term, and once. So the term fits, is whole, in range and short, and means what the form means.
 -- Assumes nothing.
 use mathlib.Core.Path.{_≡_, refl, sym, ap}
-use mathlib.Core.Logic.{_↔_, ⊎-elim, by-cases}
+use mathlib.Core.Logic.{_↔_, by-cases}
 use mathlib.Core.List.{List, [], _∷_, List·Memᴰ, List·Memᴰ·head, List·Memᴰ·tail}
 use Prim.Native.Nat.{ℕ, zero, suc, _<_, _≤_}
 use native.Mathlib.Omega.{arith}
 use native.Mathlib.Decide.{ℕ-discrete}
 use lib.ListN.{length, length-map}
-use borrow.Author.Tests.{eq-eqb, ne-eqb}
 use Rattle.meaning.specs.Picture.{Fact, Picture, All, rename}
 use Rattle.meaning.specs.Picture.Fact.{has-kind, same, leads}
 use Rattle.meaning.specs.Form.{Form, factsOf, rigJoint}
-use Rattle.meaning.specs.Solving.{Smallest, Well, InRange, AllInRange}
+use Rattle.meaning.specs.Solving.{Well}
 use Rattle.meaning.proofs.Facts.{all-member}
 use Rattle.writing.proofs.Writing.{taken-few}
 use Rattle.terms.specs.Term.{Term}
@@ -22,45 +21,35 @@ use Rattle.term_writing.specs.Tree.{Concerned, TreeFrom, kindWritten, te
 use Rattle.term_writing.specs.Tree.Concerned.{kind-known, link-known}
 use Rattle.term_writing.specs.Rising.{Rising}
 use Rattle.term_writing.proofs.Distinct.{no-longer}
-use Rattle.term_writing.proofs.Walks.{Within, within-next, Inside, walk-inside, only-walk, short-walk}
+use Rattle.term_writing.proofs.Walks.{Within, within-next, Inside, well-inside, walk-inside, only-walk, short-walk}
 use Rattle.term_writing.proofs.RowFacts.{subject, Says, form-cases, form-member}
 use Rattle.term_writing.proofs.TermFacts.{term-from, in-term, term-distinct}
-use Rattle.term_writing.proofs.LinkTerms.{items, KindBelow, Ranged, with-ranged, items-ranged, with-fits, items-fit, items-same, from-rises}
+use Rattle.term_writing.proofs.LinkTerms.{items, KindBelow, Ranged, with-ranged, with-fits, each-item, of-kind-written, items-same, from-rises}
 
 kind-short : (s : ℕ) → s < 1000 → KindShort (kindWritten s)
-kind-short s h = by-cases (ℕ-discrete s 1) (λ e. rw (eq-eqb _ _ e) tt) (λ d. rw (ne-eqb _ _ d) h)
+kind-short s h = of-kind-written KindShort s tt (λ _. h)
 
 kind-below : (n s : ℕ) → s < n → KindBelow n (kindWritten s)
-kind-below n s h = by-cases (ℕ-discrete s 1) (λ e. rw (eq-eqb _ _ e) tt) (λ d. rw (ne-eqb _ _ d) h)
+kind-below n s h = of-kind-written (KindBelow n) s tt (λ _. h)
 
--- facts that are all among others hold, and are in range, where those are
+-- facts that are all among others hold where those do
 all-within : {n : ℕ} (meet : ℕ → ℕ → ℕ) (P : Picture n) (σ : ℕ → ℕ) (fs gs : List (Fact ℕ)) →
     ((f : Fact ℕ) → List·Memᴰ f fs → List·Memᴰ f gs) → All meet P σ gs → All meet P σ fs
 all-within meet P σ [] gs within a = tt
 all-within meet P σ (f ∷ fs) gs within a =
     (all-member meet P σ (within f (List·Memᴰ·head refl)) a, all-within meet P σ fs gs (λ g m. within g (List·Memᴰ·tail m)) a)
 
-each-in-range : (n v : ℕ) (fs : List (Fact ℕ)) → ((f : Fact ℕ) → List·Memᴰ f fs → InRange n v f) → AllInRange n v fs
-each-in-range n v [] h = tt
-each-in-range n v (f ∷ fs) h = (h f (List·Memᴰ·head refl), each-in-range n v fs (λ g m. h g (List·Memᴰ·tail m)))
-
 module _ {n v : ℕ} {S : Form} (w : Well n v S) {root : ℕ} (tree : TreeFrom v S root) where
   ends : Inside v S
-  ends j l h low known =
-      ⊎-elim (λ e. absurd (known e)) (λ (s : Smallest v S (S .link j l)). s .0) (w .link-smallest j l (h, tree .apart j h) low)
+  ends = well-inside w (tree .apart)
 
-  pub says-in-range : (f : Fact ℕ) → subject f < v → Says S f → InRange n v f
-  says-in-range (has-kind a s) h says = (h, omega (arith, says .1, w .kind-in a))
-  says-in-range (same a b) h says = absurd says
-  says-in-range (leads a l c) h says = (h, says .0, omega (arith, says .2, ends a l h (says .0) (says .1)))
-
-  pub from-ranged : (depth j : ℕ) → j < v → Ranged n v (termFrom S depth j)
+  from-ranged : (depth j : ℕ) → j < v → Ranged n v (termFrom S depth j)
   unfolding termFrom
   from-ranged zero j h = (h, kind-below n (S .kind j) (w .kind-in j))
   from-ranged (suc depth) j h =
       let termOf : ℕ → Term = λ c. termFrom S depth c in
       with-ranged n v j (kindWritten (S .kind j)) (items S termOf j 0 16) h (kind-below n (S .kind j) (w .kind-in j))
-      (items-ranged S termOf j n v (λ l low known. from-ranged depth (S .link j l) (ends j l h low known)) 0 16 (omega arith))
+      (each-item S termOf j (Ranged n v) (λ l low known. from-ranged depth (S .link j l) (ends j l h low known)) 0 16 (omega arith))
 
   -- nothing is cut where every walk is short
   from-fits : n ≤ 64 → v ≤ 64 → (depth j : ℕ) → j < v → Within S depth j → Fits (termFrom S depth j) depth
@@ -69,7 +58,7 @@ module _ {n v : ℕ} {S : Form} (w : Well n v S) {root : ℕ} (tree : TreeFrom v
   from-fits few-kinds few (suc depth) j h short =
       let termOf : ℕ → Term = λ c. termFrom S depth c in
       with-fits j (kindWritten (S .kind j)) (items S termOf j 0 16) depth (omega arith) (kind-short (S .kind j) (omega (arith, w .kind-in j)))
-      (items-fit S termOf j depth
+      (each-item S termOf j (λ t. Fits t depth)
       (λ l low known. from-fits few-kinds few depth (S .link j l) (ends j l h low known) (within-next S j l low known short))
       0 16 (omega arith))
 
@@ -99,26 +88,19 @@ module _ {n v : ℕ} {S : Form} (w : Well n v S) {root : ℕ} (tree : TreeFrom v
         (λ d. let o = tree .reached (subject f) h d (says-reached f says) in in-term S f deepest root (o .walk) (o .short) (o .leads) says)
 
     -- the facts of the term are those of the form, each of them once
-    pub term→form : (f : Fact ℕ) → List·Memᴰ f (termFacts tree-term) → List·Memᴰ f (factsOf v S)
+    term→form : (f : Fact ℕ) → List·Memᴰ f (termFacts tree-term) → List·Memᴰ f (factsOf v S)
     term→form f m =
         let r = term-from S deepest root m in
         let h = walk-inside S ends (r .walk) root (subject f) inside (r .there) in
         form-member S f 0 v (tree .apart (subject f) h) (omega arith) (omega arith) (r .says)
 
-    pub form→term : (f : Fact ℕ) → List·Memᴰ f (factsOf v S) → List·Memᴰ f (termFacts tree-term)
+    form→term : (f : Fact ℕ) → List·Memᴰ f (factsOf v S) → List·Memᴰ f (termFacts tree-term)
     form→term f m = let r = form-cases S 0 v (λ i from below. tree .apart i (omega arith)) m in says-in-term f (omega (arith, r .0)) (r .1)
 
     -- the same pictures and placings satisfy them
     pub tree-means : {k : ℕ} (meet : ℕ → ℕ → ℕ) (P : Picture k) (σ : ℕ → ℕ) → All meet P σ (termFacts tree-term) ↔ All meet P σ (factsOf v S)
     tree-means meet P σ =
         (all-within meet P σ (factsOf v S) (termFacts tree-term) form→term, all-within meet P σ (termFacts tree-term) (factsOf v S) term→form)
-
-    pub tree-in-range : AllInRange n v (termFacts tree-term)
-    tree-in-range =
-        each-in-range n v (termFacts tree-term)
-        (λ f m.
-        let r = term-from S deepest root m in
-        says-in-range f (walk-inside S ends (r .walk) root (subject f) inside (r .there)) (r .says))
 
     pub tree-ranged : Ranged n v tree-term
     tree-ranged = from-ranged deepest root inside

@@ -1,10 +1,10 @@
 -- A whole visit from the root, after which every joint is marked or says nothing, is a tree; what a visit fails at, or a joint that it
 -- missed, is none.
 -- Assumes nothing.
-use mathlib.Core.Path.{_≡_, refl, sym, ap, subst, _∙_}
+use mathlib.Core.Path.{_≡_, refl, sym, ap, _∙_}
 use mathlib.Core.Logic.{_≢_, _⊎_, inl, inr, ⊎-elim, by-cases}
 use mathlib.Core.List.{List, [], _∷_, _++_}
-use Prim.Native.Nat.{ℕ, _+_, _<_, _≤_}
+use Prim.Native.Nat.{ℕ, _<_, _≤_}
 use native.Mathlib.Omega.{arith}
 use native.Mathlib.Decide.{ℕ-discrete}
 use lib.ListN.{length, length-append}
@@ -16,34 +16,13 @@ use Rattle.term_writing.specs.Tree.Concerned.{kind-known, link-known, le
 use Rattle.term_writing.specs.Visiting.{Marked, Unmarked, Visited, Failed, Sound, Accounted, Missed}
 use Rattle.term_writing.specs.Visiting.Failed.{too-deep, twice, met}
 use Rattle.term_writing.specs.Visiting.Accounted.{marked, silent}
+use Rattle.term_writing.proofs.Walks.{well-inside, only-walk, short-walk}
 
 -- a well-formed form whose joints are apart is sound
 pub well-sound : {n v : ℕ} {S : Form} → Well n v S → n ≤ 64 → v ≤ 64 → ((j : ℕ) → j < v → S .class j ≡ j) → Sound v S
-well-sound {S = S} w small few apart =
-    record {
-      few = few;
-      kinds = λ j. omega (arith, w .kind-in j);
-      links = λ j l hj hl k. ⊎-elim (λ e. absurd (k e)) (λ s. s .0) (w .link-smallest j l (hj, apart j hj) hl);
-    }
-
--- where a link of some joint leads
-pub record Led (v : ℕ) (S : Form) (m : ℕ) : Type 0 where
-  pub by : ℕ
-  pub link : ℕ
-  pub inside : by < v
-  pub small : link < 16
-  pub leads : S .link by link ≡ m
+well-sound w small few apart = record { few = few; kinds = λ j. omega (arith, w .kind-in j); links = well-inside w apart }
 
 module _ {v : ℕ} {S : Form} (sound : Sound v S) where
-  -- the last link of a walk
-  last-link : (l : ℕ) (ls : List ℕ) (a m : ℕ) → a < v → Walk S a (l ∷ ls) m → Led v S m
-  last-link l [] a m h t = record { by = a; link = l; inside = h; small = t .0; leads = t .2 }
-  last-link l (next ∷ ls) a m h t = last-link next ls (S .link a l) m (sound .links a l h (t .0) (t .1)) (t .2)
-
-  walk-inside : (w : List ℕ) (a m : ℕ) → a < v → Walk S a w m → m < v
-  walk-inside [] a m h t = subst (λ (i : ℕ). i < v) t h
-  walk-inside (l ∷ ls) a m h t = walk-inside ls (S .link a l) m (sound .links a l h (t .0) (t .1)) (t .2)
-
   -- a link to a joint is known
   known : {i l m : ℕ} → m < v → S .link i l ≡ m → S .link i l ≢ unknown
   known h e k = omega (arith, sound .few, sym e ∙ k)
@@ -57,37 +36,11 @@ module _ {v : ℕ} {S : Form} (sound : Sound v S) where
   longer w l e = omega (arith, ap length e, length-append w (l ∷ []))
 
   module _ {root : ℕ} (inside : root < v) where
-    -- in a tree no walk leads back to the root, and every joint where one leads is reached by one walk
-    module _ (tree : TreeFrom v S root) where
-      not-back : (l : ℕ) (ls : List ℕ) → Walk S root (l ∷ ls) root → ⊥
-      not-back l ls t = let led = last-link l ls root root inside t in tree .unled (led .by) (led .link) (led .inside) (led .small) (led .leads)
-
-      one-walk : (l : ℕ) (ls : List ℕ) (m : ℕ) → Walk S root (l ∷ ls) m → OneWalk S root m
-      one-walk l ls m t =
-          let led = last-link l ls root m inside t in
-          by-cases (ℕ-discrete m root)
-          (λ e. absurd (not-back l ls (subst (λ (i : ℕ). Walk S root (l ∷ ls) i) e t)))
-          (λ d.
-          tree .reached m (walk-inside (l ∷ ls) root m inside t) d
-          (led-to (led .by) (led .link) (led .inside) (led .small) (led .leads)))
-
-      only-walk : (w u : List ℕ) (m : ℕ) → Walk S root w m → Walk S root u m → w ≡ u
-      only-walk [] [] m p q = refl
-      only-walk [] (l ∷ ls) m p q = absurd (not-back l ls (subst (λ (i : ℕ). Walk S root (l ∷ ls) i) (sym p) q))
-      only-walk (l ∷ ls) [] m p q = absurd (not-back l ls (subst (λ (i : ℕ). Walk S root (l ∷ ls) i) (sym q) p))
-      only-walk (l ∷ ls) (i ∷ is) m p q = let o = one-walk l ls m p in o .only (l ∷ ls) p ∙ sym (o .only (i ∷ is) q)
-
-      short-walk : (w : List ℕ) (m : ℕ) → Walk S root w m → length w < deepest
-      short-walk [] m t = omega arith
-      short-walk (l ∷ ls) m t = let o = one-walk l ls m t in omega (arith, o .short, ap length (o .only (l ∷ ls) t))
-
-      none-failed : (seen : List ℕ) → ((m : ℕ) → Unmarked seen m) → Failed (Walk S root) deepest seen → ⊥
-      none-failed seen none (too-deep w m t h) = omega (arith, short-walk w m t)
-      none-failed seen none (twice w u m d p q) = d (only-walk w u m p q)
-      none-failed seen none (met w m t h) = h (none m)
-
+    -- a tree has walks that are short and lead apart, so no visit of one fails
     pub failed-no-tree : {seen : List ℕ} → ((m : ℕ) → Unmarked seen m) → Failed (Walk S root) deepest seen → TreeFrom v S root → ⊥
-    failed-no-tree {seen} none f tree = none-failed tree seen none f
+    failed-no-tree none (too-deep w m t h) tree = omega (arith, short-walk S (sound .links) inside tree m w t)
+    failed-no-tree none (twice w u m d p q) tree = d (only-walk S (sound .links) inside tree m w u p q)
+    failed-no-tree none (met w m t h) tree = h (none m)
 
     module _ {seen after : List ℕ} (visited : Visited (Walk S root) deepest seen after) where
       pub missed-no-tree : {j : ℕ} → j < v → Missed S after j → TreeFrom v S root → ⊥

@@ -19,16 +19,16 @@ use Rattle.term_writing.specs.Visiting.Failed.{too-deep, twice, met}
 
 -- a joint that is marked newly
 module _ (seen : List ℕ) (j : ℕ) where
-  pub marked-now : j < length seen → {m : ℕ} → m ≡ j → Marked (set seen j 1) m
+  marked-now : j < length seen → {m : ℕ} → m ≡ j → Marked (set seen j 1) m
   marked-now h e z = let s = getD-set-same seen j 1 0 h in omega (arith, s, sym (ap (λ (i : ℕ). getD (set seen j 1) i 0) e) ∙ z)
 
   stays : {m : ℕ} → (m ≡ j → ⊥) → getD (set seen j 1) m 0 ≡ getD seen m 0
   stays {m} d = getD-set-other seen j m 1 0 d
 
-  pub marked-still : j < length seen → (m : ℕ) → Marked seen m → Marked (set seen j 1) m
+  marked-still : j < length seen → (m : ℕ) → Marked seen m → Marked (set seen j 1) m
   marked-still h m k = by-cases (ℕ-discrete m j) (λ e. marked-now h e) (λ d z. k (sym (stays d) ∙ z))
 
-  pub marked-before : (m : ℕ) → Marked (set seen j 1) m → (m ≡ j) ⊎ Marked seen m
+  marked-before : (m : ℕ) → Marked (set seen j 1) m → (m ≡ j) ⊎ Marked seen m
   marked-before m k = by-cases (ℕ-discrete m j) (λ e. inl e) (λ d. inr (λ z. k (stays d ∙ z)))
 
 pub one-marked : (seen : List ℕ) (j : ℕ) → j < length seen → Unmarked seen j → unmarked seen ≡ suc (unmarked (set seen j 1))
@@ -43,7 +43,7 @@ one-marked (x ∷ xs) (suc j) h e = counted (eqb x 0) (one-marked xs j (omega ar
 
 module _ (S : Form) (j : ℕ) where
   -- the walks through all links are those of one link and more
-  pub walk-of : (w : List ℕ) (m : ℕ) → Through S j 16 w m → Walk S j w m
+  walk-of : (w : List ℕ) (m : ℕ) → Through S j 16 w m → Walk S j w m
   walk-of [] m t = absurd t
   walk-of (l ∷ ls) m t = t .1
 

@@ -2,12 +2,13 @@
 -- 16 links.
 -- Assumes nothing.
 use mathlib.Core.Path.{_≡_, refl, sym, _∙_, ap, subst}
-use mathlib.Core.Logic.{_≢_}
+use mathlib.Core.Logic.{_≢_, ⊎-elim}
 use mathlib.Core.List.{List, [], _∷_}
 use Prim.Native.Nat.{ℕ, suc, _<_}
 use native.Mathlib.Omega.{arith}
 use lib.ListN.{length}
 use Rattle.meaning.specs.Form.{Form, unknown}
+use Rattle.meaning.specs.Solving.{Smallest, Well}
 use Rattle.terms.specs.Language.{deepest}
 use Rattle.term_writing.specs.Tree.{Walk, OneWalk, TreeFrom}
 use Rattle.term_writing.specs.Tree.Concerned.{led-to}
@@ -39,6 +40,10 @@ record Led (v : ℕ) (S : Form) (x : ℕ) : Type 0 where
 -- the known links of the joints below v lead below v
 abbrev pub Inside : ℕ → Form → Type 0
 Inside v S = (j l : ℕ) → j < v → l < 16 → S .link j l ≢ unknown → S .link j l < v
+
+pub well-inside : {n v : ℕ} {S : Form} → Well n v S → ((j : ℕ) → j < v → S .class j ≡ j) → Inside v S
+well-inside {v = v} {S = S} w apart j l h low known =
+    ⊎-elim (λ e. absurd (known e)) (λ (s : Smallest v S (S .link j l)). s .0) (w .link-smallest j l (h, apart j h) low)
 
 module _ (S : Form) {v : ℕ} (ends : Inside v S) where
   pub walk-inside : (p : List ℕ) (j x : ℕ) → j < v → Walk S j p x → x < v

@@ -58,7 +58,7 @@ module _ (b : List ℕ) (root : ℕ) where
     passed : writeTermRefusal b root ≡ Done 0
     passed = not-refused (ap refuses done) inside
 
-    pub no-tree-told : {out : List ℕ} → (TreeFrom (jointsOf b) (blockForm b) root → ⊥) → WriteTerm b root out (Refused NoTree 0) out
+    no-tree-told : {out : List ℕ} → (TreeFrom (jointsOf b) (blockForm b) root → ⊥) → WriteTerm b root out (Refused NoTree 0) out
     no-tree-told none = no-tree passed none refl refl
 
     pub joined-told : {out : List ℕ} {j : ℕ} → j < jointsOf b → (blockForm b .class j ≡ j → ⊥) → WriteTerm b root out (Refused NoTree 0) out
@@ -79,7 +79,7 @@ module _ (b : List ℕ) (root : ℕ) where
         missed-told h m = no-tree-told (missed-no-tree sound inside (t .visited) h m)
 
         -- the text stands in front of the array
-        pub text-front : take end told ≡ writtenText b root
+        text-front : take end told ≡ writtenText b root
         text-front = t .put .front
 
         pub text-short : end ≤ mostText

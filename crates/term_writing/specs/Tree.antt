@@ -43,6 +43,7 @@ pub record TreeFrom (v : ℕ) (S : Form) (root : ℕ) : Type 0 where
 abbrev pub kindWritten : ℕ → Written
 kindWritten s = cond (eqb s 1) unwritten (written s)
 
+-- links and the terms where they lead, as arguments; and the term that has these, or none
 abbrev pub listed : ℕ → Term → List (ℕ × Term) → Arguments
 listed l t [] = one l t
 listed l t (next ∷ others) = more l t (listed (next .0) (next .1) others)
@@ -57,7 +58,8 @@ linkTerms S termOf j l zero = []
 linkTerms S termOf j l (suc count) =
     cond (eqb (S .link j l) unknown) (linkTerms S termOf j (suc l) count) ((l, termOf (S .link j l)) ∷ linkTerms S termOf j (suc l) count)
 
--- the term of joint j, cut where it is more than so many terms deep. From the root of a tree nothing is cut at 16
+-- the term of joint j, with at most so many levels of terms below its own. Below the root of a tree there are at most 15, so that nothing is cut
+-- at 16: `tree-whole` in proofs/TreeFacts.antt
 unfoldable pub termFrom : Form → ℕ → ℕ → Term
 termFrom S zero j = bare j (kindWritten (S .kind j))
 termFrom S (suc depth) j = termWith j (kindWritten (S .kind j)) (linkTerms S (λ c. termFrom S depth c) j 0 16)

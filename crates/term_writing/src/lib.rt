@@ -1,12 +1,13 @@
 // Writing a rig as a term. The joints are visited from the chosen one on, links rising, and each is marked when it is met: where one is met
-// again, or too deep, or one that says something is not met at all, the rig is no tree from there. The text is made in an array first, so
-// that all this is known before a byte of the output is written.
+// again, or too deep, or one that says something is not met at all, the rig is no tree from there; nor is it where joints are joined. The
+// text is made in an array first, so that all this is known before a byte of the output is written.
 ghost use mathlib.Core.Path.{_≡_};
+ghost use mathlib.Core.Bool.{true};
 ghost use mathlib.Core.List.{[], _∷_};
 ghost use Prim.Native.Nat.{ℕ, _+_, _*_, _<_, _≤_};
 ghost use lib.ListN.{length};
 ghost use Rattle.decimals.specs.Decimal.{decimal};
-ghost use Rattle.meaning.specs.Form.{unknown};
+ghost use Rattle.meaning.specs.Form.{unknown, linksFrom};
 ghost use Rattle.joints.specs.Layout.{sessionSize, jointsOf, blockForm};
 ghost use Rattle.replies.specs.declared.Reply.the-variants.{Done};
 ghost use Rattle.blocks.specs.WellFormed.{blockReply};
@@ -131,6 +132,17 @@ fn link_of_turn(turn: usize) -> u8
     turn as u8
 }
 
+// Whether none of the four links of joint j from a turn on is known, told by one look at the four: in most rows most are not. A "no" says nothing.
+fn none_ahead(block: &[u8], j: u8, turn: usize) -> bool
+    requires { ⌜ (sessionSize ≤ length (now block)) × (j < 64) ⌝ }
+    ensures { λ r. ⌜ (r ≡ true → (turn ≤ 12) × (linksFrom (blockForm (now (block .entry))) j turn 4 ≡ [])) ⌝ }
+{
+    if 12 < turn {
+        return false;
+    }
+    writing::none_of_four(block, j as usize, turn)
+}
+
 // The arguments of joint j, in the order of their links.
 fn visit_arguments(
     block: &[u8],
@@ -145,7 +157,12 @@ fn visit_arguments(
         (now (to .entry)) (now (to .exit)) (now (seen .entry)) (now (seen .exit)) (r .ok) (r .at) ⌝ }
 {
     let mut at = from;
-    for turn in 0..16 {
+    let mut turn = 0;
+    while turn < 16 {
+        if none_ahead(block, j, turn) {
+            turn = turn + 4;
+            continue;
+        }
         let l = link_of_turn(turn);
         let c = joints::link_at(block, j as usize, l as usize);
         let visit = visit_argument(block, l, c, below, to, from, at, seen);
@@ -153,6 +170,7 @@ fn visit_arguments(
             return visit;
         }
         at = visit.at;
+        turn = turn + 1;
     }
     Visit { ok: true, at }
 }

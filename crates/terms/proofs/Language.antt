@@ -41,7 +41,7 @@ begun-live w b e =
     ∙ ap (λ (s : State). run s (b .rest)) e
     ∙ dead-stays (b .rest))
 
-pub read-over : (text : List ℕ) (t : Term) → Reading text t → run start (text ++ end ∷ []) ≡ over
+read-over : (text : List ℕ) (t : Term) → Reading text t → run start (text ++ end ∷ []) ≡ over
 unfolding run behindTerm
 read-over text t r =
     rw (r .spelled, run-append, run-term t 0 16 (omega arith) (r .fits)) (ended t 0 end refl (omega arith) (omega arith))

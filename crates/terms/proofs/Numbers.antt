@@ -3,9 +3,10 @@
 use mathlib.Core.Path.{_≡_, _∙_, ap}
 use mathlib.Core.Logic.{by-cases}
 use mathlib.Core.List.{[], _∷_, _++_}
-use Prim.Native.Nat.{ℕ, _+_, _*_, _/_, _%_, _<_}
+use Prim.Native.Nat.{ℕ, _+_, _*_, _/_, _%_, _<_, _≤_}
 use native.Mathlib.Omega.{arith}
 use native.Mathlib.Decide.{decLt}
+use lib.ListN.{length}
 use Rattle.decimals.specs.Decimal.{digit, decimal}
 use Rattle.decimals.proofs.Decimals.{one-digit, more-digits}
 
@@ -42,3 +43,20 @@ digits-of x h =
     by-cases (decLt x 100)
     (λ f. from-two (x / 10) (x % 10) (omega arith) (omega arith) (omega arith) (omega arith))
     (λ f. from-three (x / 10 / 10) (x / 10 % 10) (x % 10) (omega arith) (omega arith) (omega arith) (omega arith) (omega arith)))
+
+-- how many they are
+pub two-at-most : (x : ℕ) → x < 100 → length (decimal x) ≤ 2
+two-at-most x h =
+    elim (digits-of x (omega arith)) [
+      | single g e ↦ rw e (omega arith)
+      | double a b p g f q e ↦ rw e (omega arith)
+      | triple a b c p g f i q e ↦ absurd (omega arith)
+    ]
+
+pub three-at-most : (x : ℕ) → x < 1000 → length (decimal x) ≤ 3
+three-at-most x h =
+    elim (digits-of x h) [
+      | single g e ↦ rw e (omega arith)
+      | double a b p g f q e ↦ rw e (omega arith)
+      | triple a b c p g f i q e ↦ rw e (omega arith)
+    ]

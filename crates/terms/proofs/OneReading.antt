@@ -5,11 +5,12 @@ use mathlib.Core.Path.{_≡_, refl, sym, _∙_, ap, ap₂, subst}
 use mathlib.Core.Logic.{_≢_}
 use mathlib.Core.Bool.{true, false, cond}
 use mathlib.Core.List.{List, [], _∷_, _++_, append-assoc, append-nil}
-use Prim.Native.Nat.{ℕ, zero, suc, _≤_, _<_}
+use Prim.Native.Nat.{ℕ, zero, suc, _<_}
 use native.Mathlib.Omega.{arith}
 use Rattle.decimals.specs.Decimal.{decimal}
 use Rattle.decimals.proofs.Decimals.{value, reads-back}
-use Rattle.terms.specs.Term.{Written, Term, Arguments, at-sign, colon, opening, closing, comma, equals, greater, textOf, termText, termTokens, argumentTokens, headTokens, kindTokens}
+use Rattle.terms.specs.Term.{Written, Term, Arguments, at-sign, colon, opening, closing, comma}
+use Rattle.terms.specs.Term.{equals, greater, textOf, termText, termTokens, argumentTokens, headTokens, kindTokens}
 use Rattle.terms.specs.Term.Written.{unwritten, written}
 use Rattle.terms.specs.Term.Term.{bare, bracketed}
 use Rattle.terms.specs.Term.Arguments.{one, more}
@@ -265,17 +266,3 @@ one-reading text t u r q =
 -- a text outside the language has one place where it stops
 pub no-term-one : (text : List ℕ) (p q : ℕ) → NoTerm text p → NoTerm text q → p ≡ q
 no-term-one text p q a b = omega (arith, a .longest q (b .inside) (b .begun), b .longest p (a .inside) (a .begun))
-
--- what fits some levels fits more
-mutual
-  pub fits-deeper : (t : Term) (d e : ℕ) → d ≤ e → Fits t d → Fits t e
-  fits-deeper (bare j s) zero e h f = absurd f
-  fits-deeper (bare j s) (suc d) zero h f = absurd (omega arith)
-  fits-deeper (bare j s) (suc d) (suc e) h f = f
-  fits-deeper (bracketed j s args) zero e h f = absurd f
-  fits-deeper (bracketed j s args) (suc d) zero h f = absurd (omega arith)
-  fits-deeper (bracketed j s args) (suc d) (suc e) h f = (f .0, f .1, arguments-fit-deeper args d e (omega arith) (f .2))
-
-  arguments-fit-deeper : (args : Arguments) (d e : ℕ) → d ≤ e → ArgumentsFit args d → ArgumentsFit args e
-  arguments-fit-deeper (one l t) d e h f = (f .0, fits-deeper t d e h (f .1))
-  arguments-fit-deeper (more l t args) d e h f = (f .0, fits-deeper t d e h (f .1), arguments-fit-deeper args d e h (f .2))

@@ -10,13 +10,15 @@ use native.Mathlib.Omega.{arith}
 use native.Mathlib.Decide.{ℕ-discrete}
 use borrow.Author.Tests.{lt-ltb, le-ltb, le-leb, ne-eqb}
 use Rattle.decimals.specs.Decimal.{digit, decimal}
-use Rattle.terms.specs.Term.{Written, Term, Arguments, Token, colon, opening, closing, comma, equals, textOf, termText, termTokens, argumentTokens, headTokens, linkTokens}
+use Rattle.terms.specs.Term.{Written, Term, Arguments, Token, colon, opening, closing, comma}
+use Rattle.terms.specs.Term.{equals, textOf, termText, termTokens, argumentTokens, headTokens, linkTokens}
 use Rattle.terms.specs.Term.Written.{unwritten, written}
 use Rattle.terms.specs.Term.Term.{bare, bracketed}
 use Rattle.terms.specs.Term.Arguments.{one, more}
 use Rattle.terms.specs.Term.Token.{sign}
 use Rattle.terms.specs.Language.{Short, KindShort, Fits, ArgumentsFit}
-use Rattle.terms.specs.Machine.{Role, State, isDigit, behindTerm, behindHead, behindNumber, firstDigit, nextDigit, step, run, digitsLeft, endOfHead, endOf}
+use Rattle.terms.specs.Machine.{Role, State, isDigit, behindTerm, behindHead, behindNumber, firstDigit}
+use Rattle.terms.specs.Machine.{nextDigit, step, run, digitsLeft, endOfHead, endOf}
 use Rattle.terms.specs.Machine.Role.{of-joint, of-kind, of-link}
 use Rattle.terms.specs.Machine.Phase.{awaiting, number, digits, closed}
 use Rattle.terms.specs.Machine.State.{live}
@@ -94,7 +96,7 @@ run-number role around x h =
     ]
 
 -- behind a number, what is no digit is taken as what comes behind numbers
-behind-number : (role : Role) (left around b : ℕ) → isDigit b ≡ false → step (live around (digits role left)) b ≡ behindNumber role around b
+pub behind-number : (role : Role) (left around b : ℕ) → isDigit b ≡ false → step (live around (digits role left)) b ≡ behindNumber role around b
 unfolding step nextDigit
 behind-number role zero around b h = refl
 behind-number role (suc left) around b h = rw h
@@ -113,16 +115,33 @@ run-link l around h =
     rw (run-append, run-number of-link around l h)
     (rw (behind-number of-link (digitsLeft l) around equals refl))
 
+-- behind a joint number where no `:` stands, behind a kind number, and behind a head where no bracket opens
+pub no-colon : (around b : ℕ) → b ≢ colon → behindNumber of-joint around b ≡ behindHead around b
+unfolding behindNumber
+no-colon around b d = rw (ne-eqb b colon d)
+
+pub kind-behind : (around b : ℕ) → behindNumber of-kind around b ≡ behindHead around b
+unfolding behindNumber
+kind-behind around b = refl
+
+pub no-bracket : (around b : ℕ) → b ≢ opening → behindHead around b ≡ behindTerm around b
+unfolding behindHead
+no-bracket around b o = rw (ne-eqb b opening o)
+
+-- arguments begin where there is one more level
+pub goes-bracket : (around : ℕ) → around < 15 → behindHead around opening ≡ live around (number of-link)
+unfolding behindHead
+goes-bracket around h = rw (lt-ltb around 15 h)
+
 -- behind the head of a term
 behind-head : (j : ℕ) (s : Written) (around b : ℕ) → isDigit b ≡ false → b ≢ colon → step (live around (endOfHead j s)) b ≡ behindHead around b
-unfolding behindNumber
-behind-head j unwritten around b h d = behind-number of-joint (digitsLeft j) around b h ∙ rw (ne-eqb b colon d)
-behind-head j (written s) around b h d = behind-number of-kind (digitsLeft s) around b h
+behind-head j unwritten around b h d = behind-number of-joint (digitsLeft j) around b h ∙ no-colon around b d
+behind-head j (written s) around b h d = behind-number of-kind (digitsLeft s) around b h ∙ kind-behind around b
 
 -- behind a term, each of `,` and `)` and the end is taken as behind a bracket
 pub ended : (t : Term) (around b : ℕ) → isDigit b ≡ false → b ≢ colon → b ≢ opening → step (live around (endOf t)) b ≡ behindTerm around b
-unfolding step behindHead
-ended (bare j s) around b h d o = behind-head j s around b h d ∙ rw (ne-eqb b opening o)
+unfolding step
+ended (bare j s) around b h d o = behind-head j s around b h d ∙ no-bracket around b o
 ended (bracketed j s args) around b h d o = refl
 
 -- what fits takes a level at least
@@ -136,10 +155,8 @@ some-level-below : (args : Arguments) (levels : ℕ) → ArgumentsFit args level
 some-level-below (one l t) levels h = some-level t levels (h .1)
 some-level-below (more l t args) levels h = some-level t levels (h .1)
 
--- arguments begin where there is one more level
 opened : (j : ℕ) (s : Written) (around : ℕ) → around < 15 → step (live around (endOfHead j s)) opening ≡ live around (number of-link)
-unfolding behindHead
-opened j s around h = behind-head j s around opening refl (omega arith) ∙ rw (lt-ltb around 15 h)
+opened j s around h = behind-head j s around opening refl (omega arith) ∙ goes-bracket around h
 
 -- a term inside another, and the sign behind it
 module _ (t : Term) (around : ℕ) (reads : run (live (suc around) awaiting) (termText t) ≡ live (suc around) (endOf t)) where
@@ -163,7 +180,7 @@ mutual
       (run-from (textOf (argumentTokens args) ++ closing ∷ []) (opened j s around (omega (arith, some-level-below args levels (f .2))))
       ∙ run-arguments args around levels (omega arith) (f .2))
 
-  pub run-arguments : (args : Arguments) (around levels : ℕ) → suc around + levels ≤ 16 → ArgumentsFit args levels →
+  run-arguments : (args : Arguments) (around levels : ℕ) → suc around + levels ≤ 16 → ArgumentsFit args levels →
       run (live around (number of-link)) (textOf (argumentTokens args) ++ closing ∷ []) ≡ live around closed
   run-arguments (one l t) around levels h f =
       run-argument t around (run-term t (suc around) levels h (f .1)) l closing [] (f .0) refl (omega arith) (omega arith)

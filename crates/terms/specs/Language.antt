@@ -1,4 +1,4 @@
--- Which texts are terms, and where a text stops being one.
+-- Which texts are in the language, those of terms at most 16 deep with short numbers, and where a text stops being one.
 -- Assumes nothing.
 use mathlib.Core.Path.{_≡_}
 use mathlib.Core.List.{List, _++_}

@@ -1,5 +1,5 @@
--- A machine that goes over a text byte by byte and dies at the first byte with which no text of the language goes on. It stands between the
--- meaning of reply 20's place and the reader's code; no exported contract rests on it.
+-- A machine that goes over a text byte by byte, and dies only where no text of the language goes on: `begun-live` in proofs/Language.antt. It
+-- stands between the meaning of reply 20's place and the reader's code; no exported contract rests on it.
 -- Assumes nothing.
 use mathlib.Core.Bool.{Bool, cond, _&&_}
 use mathlib.Core.List.{List, [], _∷_}
@@ -7,7 +7,7 @@ use Prim.Native.Nat.{ℕ, zero, suc}
 use lib.Dec.{eqb, leb, ltb}
 use lib.ListN.{getD}
 use Rattle.decimals.specs.Decimal.{digit}
-use Rattle.terms.specs.Term.{Written, Term, Arguments, at-sign, colon, opening, closing, comma, equals, greater}
+use Rattle.terms.specs.Term.{Written, Term, at-sign, colon, opening, closing, comma, equals, greater}
 use Rattle.terms.specs.Term.Written.{unwritten, written}
 use Rattle.terms.specs.Term.Term.{bare, bracketed}
 

@@ -8,7 +8,7 @@ use Prim.Native.Nat.{ℕ, zero, suc, _+_, _-_, _*_, _/_, _%_, _<_, _≤_}
 use native.Mathlib.Omega.{arith}
 use native.Mathlib.Numerals.{add-one}
 use lib.Dec.{eqb}
-use lib.ListN.{length, set, take, drop, length-append, length-take, length-drop, length-set}
+use lib.ListN.{length, set, take, drop, length-append, length-take, length-drop}
 use lib.Seq.{sets-eq, take-at, drop-at, take-add, drop-drop, length-take-le}
 use borrow.Author.Tests.{eq-eqb, ne-eqb}
 use Rattle.meaning.specs.declared.RigJoint.{RigJoint}
@@ -19,7 +19,24 @@ use Rattle.packets.specs.FactsPacket.{factBytes, allBytes, factsPacket}
 use Rattle.packets.proofs.FactsPacket.{bytes-four}
 use Rattle.writing.specs.Putting.{Room, Put, formBytes, kindBytes, linkBytes, sameBytes}
 
--- four bytes stored one after the other
+-- bytes that stand where others stood
+pub placed :
+    (bytes s : List ℕ) {t : List ℕ} (at : ℕ) → at + length bytes ≤ length s → t ≡ (take at s ++ bytes) ++ drop (at + length bytes) s →
+    Put bytes at s t (at + length bytes)
+placed bytes s at h e =
+    let end : ℕ = at + length bytes in
+    let long : length (take at s ++ bytes) ≡ end = simp (length-append, length-take) (omega arith) in
+    record {
+      size = ap length e ∙ omega (arith, length-append (take at s ++ bytes) (drop end s), long, length-drop end s);
+      ends = refl;
+      front = ap (take end) e ∙ take-at (take at s ++ bytes) (drop end s) end long;
+      behind = ap (drop end) e ∙ drop-at (take at s ++ bytes) (drop end s) end long;
+    }
+
+-- one byte, and four stored one after the other
+pub byte-put : (s : List ℕ) (at x : ℕ) → at + 1 ≤ length s → Put (x ∷ []) at s (set s at x) (at + 1)
+byte-put s at x h = placed (x ∷ []) s at h (sets-eq (x ∷ []) s at h)
+
 pub four-put :
     (s : List ℕ) (at a b c d : ℕ) → at + 4 ≤ length s →
     Put (a ∷ b ∷ c ∷ d ∷ []) at s (set (set (set (set s at a) (at + 1) b) (at + 2) c) (at + 3) d) (at + 4)
@@ -28,15 +45,7 @@ four-put s at a b c d h =
     let one : at + 1 ≡ suc at = omega arith in
     let two : at + 2 ≡ suc (suc at) = omega arith in
     let three : at + 3 ≡ suc (suc (suc at)) = omega arith in
-    let e : set (set (set (set s at a) (at + 1) b) (at + 2) c) (at + 3) d ≡ (take at s ++ new) ++ drop (at + 4) s =
-    rw (one, two, three) (sets-eq new s at h) in
-    let long : length (take at s ++ new) ≡ at + 4 = simp (length-append, length-take) (omega arith) in
-    record {
-      size = simp length-set;
-      ends = refl;
-      front = ap (take (at + 4)) e ∙ take-at (take at s ++ new) (drop (at + 4) s) (at + 4) long;
-      behind = ap (drop (at + 4)) e ∙ drop-at (take at s ++ new) (drop (at + 4) s) (at + 4) long;
-    }
+    placed new s at h (rw (one, two, three) (sets-eq new s at h))
 
 pub six-put :
     (s : List ℕ) (a b c d e f : ℕ) → 6 ≤ length s →
@@ -104,7 +113,7 @@ module _ {all s t left : List ℕ} {from at : ℕ} (p : Putting all from s t at 
         behind = p .behind;
       }
 
-bytes-append : (fs gs : List (Fact ℕ)) → formBytes (fs ++ gs) ≡ formBytes fs ++ formBytes gs
+pub bytes-append : (fs gs : List (Fact ℕ)) → formBytes (fs ++ gs) ≡ formBytes fs ++ formBytes gs
 unfolding allBytes
 bytes-append [] gs = refl
 bytes-append (f ∷ fs) gs =
@@ -117,10 +126,10 @@ unfolding allBytes
 maybe-first true f fs = refl
 maybe-first false f fs = refl
 
--- a fact that a test may leave out, in front of two lists
-maybe-before : (b : Bool) (f : Fact ℕ) (fs gs : List (Fact ℕ)) → cond b (fs ++ gs) (f ∷ (fs ++ gs)) ≡ cond b fs (f ∷ fs) ++ gs
-maybe-before true f fs gs = refl
-maybe-before false f fs gs = refl
+-- what a test may leave out, in front of two lists
+pub maybe-before : {A : Type 0} (b : Bool) (x : A) (xs ys : List A) → cond b (xs ++ ys) (x ∷ (xs ++ ys)) ≡ cond b xs (x ∷ xs) ++ ys
+maybe-before true x xs ys = refl
+maybe-before false x xs ys = refl
 
 module _ (S : Form) where
   -- what is left at link l of joint j's links below `last`, and at joint j of v

@@ -57,7 +57,7 @@ fn as_one(a: u8, b: u8, c: u8, d: u8) -> u32
 }
 
 // Whether none of the four links of joint j from l on is known, told by one look at the four. A "no" says nothing.
-fn none_of_four(block: &[u8], j: usize, l: usize) -> bool
+pub fn none_of_four(block: &[u8], j: usize, l: usize) -> bool
     requires { ⌜ (sessionSize ≤ length (now block)) × (j < 64) × (l ≤ 12) ⌝ }
     ensures { λ r. ⌜ (r ≡ true → linksFrom (blockForm (now (block .entry))) j l 4 ≡ []) ⌝ }
 {

@@ -2,7 +2,7 @@
 -- sign and a number before the next.
 -- Assumes nothing.
 use mathlib.Core.Path.{sym, _∙_}
-use Prim.Native.Nat.{ℕ, _+_, _-_, _<_}
+use Prim.Native.Nat.{ℕ, _-_, _<_}
 use native.Mathlib.Omega.{arith}
 use lib.ListN.{length}
 use borrow.Author.Needs.{needs}
@@ -89,7 +89,10 @@ read-arguments-same-length : (t : ℕ) → read-arguments-lts.Need-same-length (
 read-arguments-same-length t c = search needs
 
 read-arguments-returns : (t : ℕ) → read-arguments-lts.Need-returns (arguments-calls t) (read-arguments-at t) read-arguments.Post Inv μ
-read-arguments-returns t c = let g = c .before .before .before .before .loop .inv in record { is = (known (c .before .before .before .read-link .ensures) (c .before .linked .given .1) _ (g .awaited), g .size) }
+read-arguments-returns t c =
+    let read = c .before .before .before in
+    let g = read .before .loop .inv in
+    record { is = (known (read .read-link .ensures) (c .before .linked .given .1) _ (g .awaited), g .size) }
 
 read-arguments-enum-known-linked-2 : (t : ℕ) → read-arguments-lts.Need-enum-known-linked-2 (arguments-calls t) (read-arguments-at t) read-arguments.Post Inv μ
 read-arguments-enum-known-linked-2 t c = search needs
@@ -99,10 +102,14 @@ read-arguments-add-read-term t c = record { fits = omega (arith, c .before .befo
 
 read-arguments-read-term-requires : (t : ℕ) → read-arguments-lts.Need-read-term-requires (arguments-calls t) (read-arguments-at t) read-arguments.Post Inv μ
 read-arguments-read-term-requires t c κs =
-    let s = c .before .before .before .before .before .before .before .before in
-    let g = c .before .before .before .before .before .loop .inv in
-    let r = known (c .before .before .before .before .read-link .ensures) (c .before .before .linked2 .given .1) (s .args .n) (s .args .v) in
-    (omega (arith, s .pre .0, inner-nearer g r), (r .sound, s .pre .1 .1, g .size ∙ s .pre .1 .2, awaited-deeper (inner-term g r)))
+    let linked = c .before .before in
+    let turn = linked .before .before .before in
+    let s = turn .before .before .before in
+    let g = turn .loop .inv in
+    let link = known (linked .before .before .read-link .ensures) (linked .linked2 .given .1) (s .args .n) (s .args .v) in (
+      omega (arith, s .pre .0, inner-nearer g link),
+      (link .sound, s .pre .1 .1, g .size ∙ s .pre .1 .2, awaited-deeper (inner-term g link)),
+    )
 
 read-arguments-enum-known-read : (t : ℕ) → read-arguments-lts.Need-enum-known-read (arguments-calls t) (read-arguments-at t) read-arguments.Post Inv μ
 read-arguments-enum-known-read t c = search needs
@@ -112,8 +119,10 @@ read-arguments-same-length-2 t c = search needs
 
 read-arguments-returns-2 : (t : ℕ) → read-arguments-lts.Need-returns-2 (arguments-calls t) (read-arguments-at t) read-arguments.Post Inv μ
 read-arguments-returns-2 t c =
-    let stuck = known (c .before .before .before .before .before .read-term .ensures) (c .before .read .given .1) in
-    record { is = (stuck .0, stuck .1 ∙ c .before .before .before .before .before .before .before .before .before .before .before .loop .inv .size) }
+    let read = c .before .before .before .before .before in
+    let turn = read .before .before .before .before .before .before in
+    let stuck = known (read .read-term .ensures) (c .before .read .given .1) in
+    record { is = (stuck .0, stuck .1 ∙ turn .loop .inv .size) }
 
 read-arguments-enum-known-read-2 : (t : ℕ) → read-arguments-lts.Need-enum-known-read-2 (arguments-calls t) (read-arguments-at t) read-arguments.Post Inv μ
 read-arguments-enum-known-read-2 t c = search needs
@@ -123,47 +132,76 @@ read-arguments-byte-or-end-requires t c κs = search needs
 
 read-arguments-passed-requires : (t : ℕ) → read-arguments-lts.Need-passed-requires (arguments-calls t) (read-arguments-at t) read-arguments.Post Inv μ
 read-arguments-passed-requires t c κs =
-    let s = c .before .before .before .before .before .before .before .before .before .before .before .before .before .before .before .before in
-    omega (arith, within (s .args .text .now) _ closing (sym (c .before .byte-or-end .ensures) ∙ c .if1 .taken) (omega arith), s .pre .1 .1)
+    let sign = c .before in
+    let turn = sign .before .before .before .before .before .before .before .before .before .before .before .before in
+    let s = turn .before .before .before in
+    omega (arith, within (s .args .text .now) _ closing (sym (sign .byte-or-end .ensures) ∙ c .if1 .taken) (omega arith), s .pre .1 .1)
 
 read-arguments-same-length-3 : (t : ℕ) → read-arguments-lts.Need-same-length-3 (arguments-calls t) (read-arguments-at t) read-arguments.Post Inv μ
 read-arguments-same-length-3 t c = search needs
 
 read-arguments-returns-3 : (t : ℕ) → read-arguments-lts.Need-returns-3 (arguments-calls t) (read-arguments-at t) read-arguments.Post Inv μ
 read-arguments-returns-3 t c =
-    let s = c .before .before .before .before .before .before .before .before .before .before .before .before .before .before .before .before .before in
-    let r = known (c .before .before .before .before .before .before .before .before .before .before .before .before .before .read-link .ensures) (c .before .before .before .before .before .before .before .before .before .before .before .linked2 .given .1) (s .args .n) (s .args .v) in
-    let t = deeper (known (c .before .before .before .before .before .before .before .before .read-term .ensures) (c .before .before .before .before .read2 .given .1)) in
-    record { is = ends (c .before .before .before .before .before .before .before .before .before .before .before .before .before .before .loop .inv) r t (c .passed .ensures) (sym (c .before .before .byte-or-end .ensures) ∙ c .before .if1 .taken) }
+    let closes = c .before in
+    let sign = closes .before in
+    let found = sign .before .before in
+    let read = found .before .before .before .before in
+    let linked = read .before .before .before in
+    let turn = linked .before .before .before in
+    let s = turn .before .before .before in
+    let link = known (linked .before .before .read-link .ensures) (linked .linked2 .given .1) (s .args .n) (s .args .v) in
+    let term = deeper (known (read .read-term .ensures) (found .read2 .given .1)) in
+    record { is = ends (turn .loop .inv) link term (c .passed .ensures) (sym (sign .byte-or-end .ensures) ∙ closes .if1 .taken) }
 
 read-arguments-same-length-4 : (t : ℕ) → read-arguments-lts.Need-same-length-4 (arguments-calls t) (read-arguments-at t) read-arguments.Post Inv μ
 read-arguments-same-length-4 t c = search needs
 
 read-arguments-returns-4 : (t : ℕ) → read-arguments-lts.Need-returns-4 (arguments-calls t) (read-arguments-at t) read-arguments.Post Inv μ
 read-arguments-returns-4 t c =
-    let s = c .before .before .before .before .before .before .before .before .before .before .before .before .before .before .before .before .before in
-    let g = c .before .before .before .before .before .before .before .before .before .before .before .before .before .before .loop .inv in
-    let r = known (c .before .before .before .before .before .before .before .before .before .before .before .before .before .read-link .ensures) (c .before .before .before .before .before .before .before .before .before .before .before .linked2 .given .1) (s .args .n) (s .args .v) in
-    let t = deeper (known (c .before .before .before .before .before .before .before .before .read-term .ensures) (c .before .before .before .before .read2 .given .1)) in
-    record { is = (breaks-off g r t (λ e. c .if2 .taken (c .before .before .byte-or-end .ensures ∙ e)) (λ e. c .before .if1 .left (c .before .before .byte-or-end .ensures ∙ e)), t .said .size ∙ g .size) }
+    let unclosed = c .before in
+    let sign = unclosed .before in
+    let found = sign .before .before in
+    let read = found .before .before .before .before in
+    let linked = read .before .before .before in
+    let turn = linked .before .before .before in
+    let s = turn .before .before .before in
+    let link = known (linked .before .before .read-link .ensures) (linked .linked2 .given .1) (s .args .n) (s .args .v) in
+    let term = deeper (known (read .read-term .ensures) (found .read2 .given .1)) in
+    let g = turn .loop .inv in
+    let here-is = sign .byte-or-end .ensures in
+    record { is = (breaks-off g link term (λ e. c .if2 .taken (here-is ∙ e)) (λ e. unclosed .if1 .left (here-is ∙ e)), term .said .size ∙ g .size) }
 
 read-arguments-passed-requires-2 : (t : ℕ) → read-arguments-lts.Need-passed-requires-2 (arguments-calls t) (read-arguments-at t) read-arguments.Post Inv μ
 read-arguments-passed-requires-2 t c κs =
-    let s = c .before .before .before .before .before .before .before .before .before .before .before .before .before .before .before .before .before in
-    omega (arith, within (s .args .text .now) _ comma (sym (c .before .before .byte-or-end .ensures) ∙ c .if2 .left) (omega arith), s .pre .1 .1)
+    let sign = c .before .before in
+    let turn = sign .before .before .before .before .before .before .before .before .before .before .before .before in
+    let s = turn .before .before .before in
+    omega (arith, within (s .args .text .now) _ comma (sym (sign .byte-or-end .ensures) ∙ c .if2 .left) (omega arith), s .pre .1 .1)
 
 read-arguments-loop-less : (t : ℕ) → read-arguments-lts.Need-loop-less (arguments-calls t) (read-arguments-at t) read-arguments.Post Inv μ
 read-arguments-loop-less t c =
-    let s = c .before .before .before .before .before .before .before .before .before .before .before .before .before .before .before .before .before .before in
-    let r = known (c .before .before .before .before .before .before .before .before .before .before .before .before .before .before .read-link .ensures) (c .before .before .before .before .before .before .before .before .before .before .before .before .linked2 .given .1) (s .args .n) (s .args .v) in
-    next-nearer (c .before .before .before .before .before .before .before .before .before .before .before .before .before .before .before .loop .inv) r (deeper (known (c .before .before .before .before .before .before .before .before .before .read-term .ensures) (c .before .before .before .before .before .read2 .given .1))) (c .passed2 .ensures)
+    let sign = c .before .before .before in
+    let found = sign .before .before in
+    let read = found .before .before .before .before in
+    let linked = read .before .before .before in
+    let turn = linked .before .before .before in
+    let s = turn .before .before .before in
+    let link = known (linked .before .before .read-link .ensures) (linked .linked2 .given .1) (s .args .n) (s .args .v) in
+    let term = deeper (known (read .read-term .ensures) (found .read2 .given .1)) in
+    next-nearer (turn .loop .inv) link term (c .passed2 .ensures)
 
 read-arguments-loop-again : (t : ℕ) → read-arguments-lts.Need-loop-again (arguments-calls t) (read-arguments-at t) read-arguments.Post Inv μ
 read-arguments-loop-again t c =
-    let s = c .before .before .before .before .before .before .before .before .before .before .before .before .before .before .before .before .before .before in
-    let r = known (c .before .before .before .before .before .before .before .before .before .before .before .before .before .before .read-link .ensures) (c .before .before .before .before .before .before .before .before .before .before .before .before .linked2 .given .1) (s .args .n) (s .args .v) in
-    let t = deeper (known (c .before .before .before .before .before .before .before .before .before .read-term .ensures) (c .before .before .before .before .before .read2 .given .1)) in
-    goes-on (c .before .before .before .before .before .before .before .before .before .before .before .before .before .before .before .loop .inv) r t (c .passed2 .ensures) (sym (c .before .before .before .byte-or-end .ensures) ∙ c .before .if2 .left)
+    let goes = c .before in
+    let sign = goes .before .before in
+    let found = sign .before .before in
+    let read = found .before .before .before .before in
+    let linked = read .before .before .before in
+    let turn = linked .before .before .before in
+    let s = turn .before .before .before in
+    let link = known (linked .before .before .read-link .ensures) (linked .linked2 .given .1) (s .args .n) (s .args .v) in
+    let term = deeper (known (read .read-term .ensures) (found .read2 .given .1)) in
+    goes-on (turn .loop .inv) link term (c .passed2 .ensures) (sym (sign .byte-or-end .ensures) ∙ goes .if2 .left)
 
 read-term-read-head-requires : (t : ℕ) → read-term-lts.Need-read-head-requires (term-calls t) (read-term-at t) read-term.Post
 read-term-read-head-requires t c κs = let s = c .before .before .before in (s .pre .1 .0, s .pre .1 .1, s .pre .1 .2)
@@ -182,11 +220,15 @@ read-term-same-length t c = search needs
 
 read-term-returns : (t : ℕ) → read-term-lts.Need-returns (term-calls t) (read-term-at t) read-term.Post
 read-term-returns t c =
-    let s = c .before .before .before .before .before .before .before .before .before .before .before in
+    let named = c .before .before .before in
+    let read = named .before .before .before .before in
+    let s = read .before .before .before .before in
+    let a = s .args in
+    let head = known (read .read-head .ensures) (named .head2 .given .1) in
     record {
       is =
-          bare-read (s .args .text .now) (s .args .n) (s .args .v) (s .args .around) (s .args .lead) (s .args .from) (s .args .to .now) _ _ _
-          (known (c .before .before .before .before .before .before .before .read-head .ensures) (c .before .before .before .head2 .given .1)) (s .pre .1 .3 .shallow) (λ e. c .if1 .taken (c .before .byte-or-end .ensures ∙ e));
+          bare-read (a .text .now) (a .n) (a .v) (a .around) (a .lead) (a .from) (a .to .now) _ _ _ head (s .pre .1 .3 .shallow)
+          (λ e. c .if1 .taken (c .before .byte-or-end .ensures ∙ e));
     }
 
 read-term-same-length-2 : (t : ℕ) → read-term-lts.Need-same-length-2 (term-calls t) (read-term-at t) read-term.Post
@@ -194,24 +236,32 @@ read-term-same-length-2 t c = search needs
 
 read-term-returns-2 : (t : ℕ) → read-term-lts.Need-returns-2 (term-calls t) (read-term-at t) read-term.Post
 read-term-returns-2 t c =
-    let s = c .before .before .before .before .before .before .before .before .before .before .before .before in
-    let head = known (c .before .before .before .before .before .before .before .before .read-head .ensures) (c .before .before .before .before .head2 .given .1) in
-    record { is = (too-deep (s .pre .1 .3) head (sym (c .before .before .byte-or-end .ensures) ∙ c .before .if1 .left) (c .if2 .taken), head .said .size) }
+    let opens = c .before in
+    let named = opens .before .before .before in
+    let read = named .before .before .before .before in
+    let s = read .before .before .before .before in
+    let head = known (read .read-head .ensures) (named .head2 .given .1) in
+    record { is = (too-deep (s .pre .1 .3) head (sym (opens .before .byte-or-end .ensures) ∙ opens .if1 .left) (c .if2 .taken), head .said .size) }
 
 read-term-passed-requires : (t : ℕ) → read-term-lts.Need-passed-requires (term-calls t) (read-term-at t) read-term.Post
 read-term-passed-requires t c κs =
-    let s = c .before .before .before .before .before .before .before .before .before .before .before .before in
-    omega (arith, within (s .args .text .now) _ opening (sym (c .before .before .byte-or-end .ensures) ∙ c .before .if1 .left) (omega arith), s .pre .1 .1)
+    let opens = c .before in
+    let s = opens .before .before .before .before .before .before .before .before .before .before .before in
+    omega (arith, within (s .args .text .now) _ opening (sym (opens .before .byte-or-end .ensures) ∙ opens .if1 .left) (omega arith), s .pre .1 .1)
 
 read-term-read-arguments-requires : (t : ℕ) → read-term-lts.Need-read-arguments-requires (term-calls t) (read-term-at t) read-term.Post
 read-term-read-arguments-requires t c κs =
-    let s = c .before .before .before .before .before .before .before .before .before .before .before .before .before .before in
+    let shallow = c .before .before in
+    let opens = shallow .before in
+    let named = opens .before .before .before in
+    let read = named .before .before .before .before in
+    let s = read .before .before .before .before in
     let w = s .pre .1 .3 in
-    let head = known (c .before .before .before .before .before .before .before .before .before .before .read-head .ensures) (c .before .before .before .before .before .before .head2 .given .1) in
-    let h = sym (c .before .before .before .before .byte-or-end .ensures) ∙ c .before .before .before .if1 .left in
+    let head = known (read .read-head .ensures) (named .head2 .given .1) in
+    let h = sym (opens .before .byte-or-end .ensures) ∙ opens .if1 .left in
     let e = c .before .passed .ensures in (
       omega (arith, s .pre .0, arguments-nearer w head h e),
-      (next-sound w head h e, s .pre .1 .1, head .said .size ∙ s .pre .1 .2, next-awaited-arguments w head h e (c .before .before .if2 .left)),
+      (next-sound w head h e, s .pre .1 .1, head .said .size ∙ s .pre .1 .2, next-awaited-arguments w head h e (shallow .if2 .left)),
     )
 
 read-term-same-length-3 : (t : ℕ) → read-term-lts.Need-same-length-3 (term-calls t) (read-term-at t) read-term.Post
@@ -219,17 +269,28 @@ read-term-same-length-3 t c = search needs
 
 read-term-returns-3 : (t : ℕ) → read-term-lts.Need-returns-3 (term-calls t) (read-term-at t) read-term.Post
 read-term-returns-3 t c =
-    let stuck = known (c .before .before .before .before .before .read-head .ensures) (c .before .head .given .1) in
-    record { is = (stuck .0 _ (c .before .before .before .before .before .before .before .before .before .pre .1 .3), stuck .1) }
+    let read = c .before .before .before .before .before in
+    let s = read .before .before .before .before in
+    let stuck = known (read .read-head .ensures) (c .before .head .given .1) in
+    record { is = (stuck .0 _ (s .pre .1 .3), stuck .1) }
 
 read-term-same-length-4 : (t : ℕ) → read-term-lts.Need-same-length-4 (term-calls t) (read-term-at t) read-term.Post
 read-term-same-length-4 t c = search needs
 
 read-term-returns-4 : (t : ℕ) → read-term-lts.Need-returns-4 (term-calls t) (read-term-at t) read-term.Post
 read-term-returns-4 t c =
-    let s = c .before .before .before .before .before .before .before .before .before .before .before .before .before .before .before .before .before in
-    let head = known (c .before .before .before .before .before .before .before .before .before .before .before .before .before .read-head .ensures) (c .before .before .before .before .before .before .before .before .before .head2 .given .1) in
-    record { is = term-step (s .pre .1 .3) head (sym (c .before .before .before .before .before .before .before .byte-or-end .ensures) ∙ c .before .before .before .before .before .before .if1 .left) (c .before .before .before .before .passed .ensures) (c .before .before .read-arguments .result) _ (c .before .before .read-arguments .ensures .is) }
+    let arguments = c .before .before .read-arguments in
+    let passed = c .before .before .before .before in
+    let opens = passed .before .before in
+    let named = opens .before .before .before in
+    let read = named .before .before .before .before in
+    let s = read .before .before .before .before in
+    let head = known (read .read-head .ensures) (named .head2 .given .1) in
+    record {
+      is =
+          term-step (s .pre .1 .3) head (sym (opens .before .byte-or-end .ensures) ∙ opens .if1 .left) (passed .passed .ensures)
+          (arguments .result) _ (arguments .ensures .is);
+    }
 
 pub +read-arguments+read-term-spec : {M : Type 1} → statement M
 +read-arguments+read-term-spec =

@@ -1,10 +1,8 @@
--- The two halves of the test.
+-- `term_reading::is_digit` meets its contract: the two halves of the test.
 -- Assumes nothing.
 use borrow.Author.Tests.{le-leb, lt-leb}
 use Rattle.term_reading.proofs.is_digit.Statement.{statement}
 use Rattle.term_reading.proofs.is_digit.Tie as tie
-use Rattle.term_reading.proofs.is_digit.Reads as reads
-use Rattle.term_reading.proofs.is_digit.Lts as lts
 
 returns : tie.Need-returns
 returns c = rw (le-leb 48 (c .before .args .b) (c .if1 .taken))

@@ -1,21 +1,16 @@
--- Where there is room, the bytes stand behind those of the facts before.
+-- `term_reading::put_fact` meets its contract: where there is room, the bytes stand behind those of the facts before.
 -- Assumes nothing.
 use mathlib.Core.Path.{refl}
 use borrow.Author.Needs.{needs}
 use Rattle.term_reading.proofs.Facts.{no-room, with-room}
 use Rattle.term_reading.proofs.put_fact.Statement.{statement}
 use Rattle.term_reading.proofs.put_fact.Tie as tie
-use Rattle.term_reading.proofs.put_fact.Reads as reads
-use Rattle.term_reading.proofs.put_fact.Lts as lts
-use Rattle.writing.proofs.put.Reads as put-reads
 
 add-result : tie.Need-add-result
 add-result c = search needs
 
 returns : tie.Need-returns
-returns c =
-    let s = c .before .before in
-    no-room _ (s .args .i) (s .args .to .now) (c .if1 .taken)
+returns c = let a = c .before .before .args in no-room _ (a .i) (a .to .now) (c .if1 .taken)
 
 mul-put : tie.Need-mul-put
 mul-put c = search needs

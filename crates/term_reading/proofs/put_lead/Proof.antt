@@ -1,12 +1,9 @@
--- No fact, or one link fact.
+-- `term_reading::put_lead` meets its contract: no fact, or one link fact.
 -- Assumes nothing.
 use borrow.Author.Needs.{needs}
 use Rattle.term_reading.proofs.Facts.{lead-none, lead-fact}
 use Rattle.term_reading.proofs.put_lead.Statement.{statement}
 use Rattle.term_reading.proofs.put_lead.Tie as tie
-use Rattle.term_reading.proofs.put_lead.Reads as reads
-use Rattle.term_reading.proofs.put_lead.Lts as lts
-use Rattle.term_reading.proofs.put_fact.Reads as put-fact-reads
 
 enum-told : tie.Need-enum-told
 enum-told c = search needs
@@ -18,9 +15,7 @@ put-fact-requires : tie.Need-put-fact-requires
 put-fact-requires c κs = search needs
 
 returns : tie.Need-returns
-returns c =
-    let s = c .before .before .before in
-    lead-none (s .args .joint) (s .args .i) (s .args .to .now) (c .enum-told .given .1)
+returns c = let a = c .before .before .before .args in lead-none (a .joint) (a .i) (a .to .now) (c .enum-told .given .1)
 
 same-length : tie.Need-same-length
 same-length c = search needs

@@ -1,15 +1,10 @@
--- The joint, the fact that leads to it, and the kind, one behind the other.
+-- `term_reading::read_head` meets its contract: the joint, the fact that leads to it, and the kind, one behind the other.
 -- Assumes nothing.
 use mathlib.Core.Path.{refl, _∙_}
 use borrow.Author.Needs.{needs}
 use Rattle.term_reading.proofs.Steps.{known, lead-room, kind-room, head-stuck, head-done}
 use Rattle.term_reading.proofs.read_head.Statement.{statement}
 use Rattle.term_reading.proofs.read_head.Tie as tie
-use Rattle.term_reading.proofs.read_head.Reads as reads
-use Rattle.term_reading.proofs.read_head.Lts as lts
-use Rattle.term_reading.proofs.put_lead.Reads as put-lead-reads
-use Rattle.term_reading.proofs.read_joint.Reads as read-joint-reads
-use Rattle.term_reading.proofs.read_kind.Reads as read-kind-reads
 
 read-joint-requires : tie.Need-read-joint-requires
 read-joint-requires c κs = search needs
@@ -22,13 +17,25 @@ enum-known-named-2 c = search needs
 
 put-lead-requires : tie.Need-put-lead-requires
 put-lead-requires c κs =
-    let s = c .before .before .before .before .before .before .before in
-    (lead-room (s .args .text .now) (s .args .v) (s .args .lead) (s .args .from) (s .args .to .now) (s .pre .0) _ _ (known (c .before .before .before .before .read-joint .ensures) (c .before .before .named2 .given .1)) (s .pre .1), s .pre .2)
+    let named = c .before .before in
+    let joint = named .before .before in
+    let s = joint .before .before .before in
+    let a = s .args in
+    let found = known (joint .read-joint .ensures) (named .named2 .given .1) in
+    (lead-room (a .text .now) (a .v) (a .lead) (a .from) (a .to .now) (s .pre .0) _ _ found (s .pre .1), s .pre .2)
 
 read-kind-requires : tie.Need-read-kind-requires
 read-kind-requires c κs =
-    let s = c .before .before .before .before .before .before .before .before .before .before .before in
-    (kind-room (s .args .text .now) (s .args .v) (s .args .lead) (s .args .from) (s .args .to .now) (s .pre .0) _ _ (known (c .before .before .before .before .before .before .before .before .read-joint .ensures) (c .before .before .before .before .before .before .named2 .given .1)) _ (c .before .before .before .put-lead .ensures), s .pre .1, c .before .before .before .put-lead .ensures .size ∙ s .pre .2)
+    let led = c .before .before .before in
+    let named = led .before .before .before in
+    let joint = named .before .before in
+    let s = joint .before .before .before in
+    let a = s .args in
+    let found = known (joint .read-joint .ensures) (named .named2 .given .1) in (
+      kind-room (a .text .now) (a .v) (a .lead) (a .from) (a .to .now) (s .pre .0) _ _ found _ (led .put-lead .ensures),
+      s .pre .1,
+      led .put-lead .ensures .size ∙ s .pre .2,
+    )
 
 enum-known-kinded : tie.Need-enum-known-kinded
 enum-known-kinded c = search needs
@@ -44,17 +51,38 @@ same-length c = search needs
 
 returns-2 : tie.Need-returns-2
 returns-2 c =
-    let s = c .before .before .before .before .before .before .before .before .before .before .before .before .before .before .before .before .before in
-    let stuck = known (c .before .before .before .before .before .read-kind .ensures) (c .before .kinded .given .1) in
-    record { is = (λ around w. head-stuck (s .args .text .now) (s .args .v) (s .args .lead) (s .args .from) (s .args .to .now) (s .pre .0) _ _ (known (c .before .before .before .before .before .before .before .before .before .before .before .before .before .before .read-joint .ensures) (c .before .before .before .before .before .before .before .before .before .before .before .before .named2 .given .1)) _ around (stuck .0) w, stuck .1 ∙ c .before .before .before .before .before .before .before .before .before .put-lead .ensures .size) }
+    let kind = c .before .before .before .before .before in
+    let led = kind .before .before .before .before in
+    let named = led .before .before .before in
+    let joint = named .before .before in
+    let s = joint .before .before .before in
+    let a = s .args in
+    let found = known (joint .read-joint .ensures) (named .named2 .given .1) in
+    let stuck = known (kind .read-kind .ensures) (c .before .kinded .given .1) in
+    record {
+      is = (
+        λ around w. head-stuck (a .text .now) (a .v) (a .lead) (a .from) (a .to .now) (s .pre .0) _ _ found _ around (stuck .0) w,
+        stuck .1 ∙ led .put-lead .ensures .size,
+      );
+    }
 
 same-length-2 : tie.Need-same-length-2
 same-length-2 c = search needs
 
 returns-3 : tie.Need-returns-3
 returns-3 c =
-    let s = c .before .before .before .before .before .before .before .before .before .before .before .before .before .before .before .before .before in
-    record { is = head-done (s .args .text .now) (s .args .v) (s .args .lead) (s .args .from) (s .args .to .now) (s .pre .0) _ _ (known (c .before .before .before .before .before .before .before .before .before .before .before .before .before .before .read-joint .ensures) (c .before .before .before .before .before .before .before .before .before .before .before .before .named2 .given .1)) _ (c .before .before .before .before .before .before .before .before .before .put-lead .ensures) (s .args .n) _ _ (known (c .before .before .before .before .before .read-kind .ensures) (c .before .kinded2 .given .1)) }
+    let kind = c .before .before .before .before .before in
+    let led = kind .before .before .before .before in
+    let named = led .before .before .before in
+    let joint = named .before .before in
+    let s = joint .before .before .before in
+    let a = s .args in
+    let found = known (joint .read-joint .ensures) (named .named2 .given .1) in
+    record {
+      is =
+          head-done (a .text .now) (a .v) (a .lead) (a .from) (a .to .now) (s .pre .0) _ _ found _ (led .put-lead .ensures) (a .n) _ _
+          (known (kind .read-kind .ensures) (c .before .kinded2 .given .1));
+    }
 
 pub read-head-spec : {M : Type 1} → statement M
 read-head-spec =

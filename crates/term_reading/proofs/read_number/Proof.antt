@@ -1,17 +1,24 @@
--- Digit after digit, up to three.
+-- `term_reading::read_number` meets its contract: digit after digit, up to three.
 -- Assumes nothing.
-use mathlib.Core.Path.{_≡_, sym, ap, _∙_, subst}
-use Prim.Native.Nat.{ℕ, _+_, _*_}
+use mathlib.Core.Path.{_≡_, sym, _∙_, subst}
+use mathlib.Core.Bool.{true}
+use Prim.Native.Nat.{ℕ, _+_}
 use borrow.Author.Needs.{needs}
+use Rattle.terms.specs.Machine.{isDigit}
 use Rattle.term_reading.specs.Reading.{NumberRead}
 use Rattle.term_reading.proofs.Numbers.{is-digit, is-none, zero-read, one-read, two-read, three-read}
 use Rattle.term_reading.proofs.read_number.Statement.{statement}
 use Rattle.term_reading.proofs.read_number.Tie as tie
-use Rattle.term_reading.proofs.read_number.Reads as reads
-use Rattle.term_reading.proofs.read_number.Lts as lts
-use Rattle.term_reading.proofs.byte_or_end.Reads as byte-or-end-reads
-use Rattle.term_reading.proofs.is_digit.Reads as is-digit-reads
-use Rattle.term_reading.proofs.value.Reads as value-reads
+
+-- the bytes that were found to be digits
+first-is : (c : tie.Else1) → isDigit (c .before .before .byte-or-end .result) ≡ true
+first-is c = is-digit (c .before .before .byte-or-end .result) (c .before .is-digit .ensures) (c .if1 .left)
+
+second-is : (c : tie.Else3) → isDigit (c .before .before .byte-or-end2 .result) ≡ true
+second-is c = is-digit (c .before .before .byte-or-end2 .result) (c .before .is-digit2 .ensures) (c .if3 .left)
+
+third-is : (c : tie.Else4) → isDigit (c .before .before .byte-or-end3 .result) ≡ true
+third-is c = is-digit (c .before .before .byte-or-end3 .result) (c .before .is-digit3 .ensures) (c .if4 .left)
 
 byte-or-end-requires : tie.Need-byte-or-end-requires
 byte-or-end-requires c κs = search needs
@@ -20,7 +27,9 @@ is-digit-requires : tie.Need-is-digit-requires
 is-digit-requires c κs = search needs
 
 returns : tie.Need-returns
-returns c = record { is = is-none (c .before .before .byte-or-end .result) _ (c .before .before .byte-or-end .ensures) (c .before .is-digit .ensures) (c .if1 .taken) }
+returns c =
+    let read = c .before .before .byte-or-end in
+    record { is = is-none (read .result) _ (read .ensures) (c .before .is-digit .ensures) (c .if1 .taken) }
 
 add-t10 : tie.Need-add-t10
 add-t10 c = search needs
@@ -31,7 +40,7 @@ returns-2 c =
     record { is = zero-read (s .args .text .now) (s .args .at) (sym (c .before .before .before .byte-or-end .ensures) ∙ c .if2 .taken) }
 
 value-requires : tie.Need-value-requires
-value-requires c κs = is-digit (c .before .before .before .byte-or-end .result) (c .before .before .is-digit .ensures) (c .before .if1 .left)
+value-requires c κs = first-is (c .before)
 
 add-byte-or-end : tie.Need-add-byte-or-end
 add-byte-or-end c = search needs
@@ -47,19 +56,23 @@ add-t12 c = search needs
 
 returns-3 : tie.Need-returns-3
 returns-3 c =
-    let s = c .before .before .before .before .before .before .before .before .before in
+    let second = c .before .before in
+    let one = second .before in
+    let some = one .before in
+    let read = some .before .before .before in
+    let a = read .before .before .args in
     record {
       is =
-          subst (λ (x : ℕ). NumberRead (s .args .text .now) (s .args .at) x (s .args .at + 1)) (sym (c .before .before .before .value .ensures .0))
-          (one-read (s .args .text .now) (s .args .at) (sym (c .before .before .before .before .before .before .before .byte-or-end .ensures)) (is-digit (c .before .before .before .before .before .before .before .byte-or-end .result) (c .before .before .before .before .before .before .is-digit .ensures) (c .before .before .before .before .before .if1 .left)) (c .before .before .before .before .if2 .left)
-          (is-none (c .before .before .byte-or-end2 .result) _ (c .before .before .byte-or-end2 .ensures) (c .before .is-digit2 .ensures) (c .if3 .taken)));
+          subst (λ (x : ℕ). NumberRead (a .text .now) (a .at) x (a .at + 1)) (sym (one .value .ensures .0))
+          (one-read (a .text .now) (a .at) (sym (read .byte-or-end .ensures)) (first-is (some .before)) (some .if2 .left)
+          (is-none (second .byte-or-end2 .result) _ (second .byte-or-end2 .ensures) (c .before .is-digit2 .ensures) (c .if3 .taken)));
     }
 
 mul-two : tie.Need-mul-two
 mul-two c = search needs
 
 value-requires-2 : tie.Need-value-requires-2
-value-requires-2 c κs = is-digit (c .before .before .byte-or-end2 .result) (c .before .is-digit2 .ensures) (c .if3 .left)
+value-requires-2 c κs = second-is c
 
 add-two : tie.Need-add-two
 add-two c = search needs
@@ -78,20 +91,26 @@ add-t14 c = search needs
 
 returns-4 : tie.Need-returns-4
 returns-4 c =
-    let s = c .before .before .before .before .before .before .before .before .before .before .before .before .before in
+    let third = c .before .before in
+    let two = third .before in
+    let second = two .before .before .before in
+    let one = second .before in
+    let some = one .before in
+    let read = some .before .before .before in
+    let a = read .before .before .args in
     record {
       is =
-          subst (λ (x : ℕ). NumberRead (s .args .text .now) (s .args .at) x (s .args .at + 2))
-          (cc (c .before .before .before .before .before .before .before .value .ensures .0, c .before .before .before .value2 .ensures .0))
-          (two-read (s .args .text .now) (s .args .at) (sym (c .before .before .before .before .before .before .before .before .before .before .before .byte-or-end .ensures)) (is-digit (c .before .before .before .before .before .before .before .before .before .before .before .byte-or-end .result) (c .before .before .before .before .before .before .before .before .before .before .is-digit .ensures) (c .before .before .before .before .before .before .before .before .before .if1 .left)) (c .before .before .before .before .before .before .before .before .if2 .left) (sym (c .before .before .before .before .before .before .byte-or-end2 .ensures)) (is-digit (c .before .before .before .before .before .before .byte-or-end2 .result) (c .before .before .before .before .before .is-digit2 .ensures) (c .before .before .before .before .if3 .left))
-          (is-none (c .before .before .byte-or-end3 .result) _ (c .before .before .byte-or-end3 .ensures) (c .before .is-digit3 .ensures) (c .if4 .taken)));
+          subst (λ (x : ℕ). NumberRead (a .text .now) (a .at) x (a .at + 2)) (cc (one .value .ensures .0, two .value2 .ensures .0))
+          (two-read (a .text .now) (a .at) (sym (read .byte-or-end .ensures)) (first-is (some .before)) (some .if2 .left)
+          (sym (second .byte-or-end2 .ensures)) (second-is (two .before))
+          (is-none (third .byte-or-end3 .result) _ (third .byte-or-end3 .ensures) (c .before .is-digit3 .ensures) (c .if4 .taken)));
     }
 
 mul-t11 : tie.Need-mul-t11
 mul-t11 c = search needs
 
 value-requires-3 : tie.Need-value-requires-3
-value-requires-3 c κs = is-digit (c .before .before .byte-or-end3 .result) (c .before .is-digit3 .ensures) (c .if4 .left)
+value-requires-3 c κs = third-is c
 
 add-t15 : tie.Need-add-t15
 add-t15 c = search needs
@@ -101,13 +120,20 @@ add-t16 c = search needs
 
 returns-5 : tie.Need-returns-5
 returns-5 c =
-    let s = c .before .before .before .before .before .before .before .before .before .before .before .before .before .before in
+    let third = c .before .before .before in
+    let two = third .before in
+    let second = two .before .before .before in
+    let one = second .before in
+    let some = one .before in
+    let read = some .before .before .before in
+    let a = read .before .before .args in
     record {
       is =
-          subst (λ (x : ℕ). NumberRead (s .args .text .now) (s .args .at) x (s .args .at + 3))
-          (cc (c .before .before .before .before .before .before .before .before .value .ensures .0, c .before .before .before .before .value2 .ensures .0, c .value3 .ensures .0))
-          (three-read (s .args .text .now) (s .args .at) (sym (c .before .before .before .before .before .before .before .before .before .before .before .before .byte-or-end .ensures)) (is-digit (c .before .before .before .before .before .before .before .before .before .before .before .before .byte-or-end .result) (c .before .before .before .before .before .before .before .before .before .before .before .is-digit .ensures) (c .before .before .before .before .before .before .before .before .before .before .if1 .left)) (c .before .before .before .before .before .before .before .before .before .if2 .left) (sym (c .before .before .before .before .before .before .before .byte-or-end2 .ensures)) (is-digit (c .before .before .before .before .before .before .before .byte-or-end2 .result) (c .before .before .before .before .before .before .is-digit2 .ensures) (c .before .before .before .before .before .if3 .left))
-          (sym (c .before .before .before .byte-or-end3 .ensures)) (is-digit (c .before .before .before .byte-or-end3 .result) (c .before .before .is-digit3 .ensures) (c .before .if4 .left)));
+          subst (λ (x : ℕ). NumberRead (a .text .now) (a .at) x (a .at + 3))
+          (cc (one .value .ensures .0, two .value2 .ensures .0, c .value3 .ensures .0))
+          (three-read (a .text .now) (a .at) (sym (read .byte-or-end .ensures)) (first-is (some .before)) (some .if2 .left)
+          (sym (second .byte-or-end2 .ensures)) (second-is (two .before))
+          (sym (third .byte-or-end3 .ensures)) (third-is (c .before)));
     }
 
 pub read-number-spec : {M : Type 1} → statement M

@@ -1,19 +1,20 @@
--- No term, or the answer of its packet.
+-- `term_reading::read_packet` meets its contract: no term, or the answer of its packet.
 -- Assumes nothing.
-use mathlib.Core.Path.{refl, sym, ap}
-use mathlib.Core.List.{append-nil}
+use mathlib.Core.Path.{_≡_, refl, sym, ap}
+use mathlib.Core.List.{[], _++_, append-nil}
 use native.Mathlib.Omega.{arith}
 use lib.ListN.{length}
 use borrow.Author.Needs.{needs}
+use Rattle.term_reading.specs.Reading.{factsRoom}
 use Rattle.term_reading.specs.Reading.TextAnswer.{no-term}
 use Rattle.term_reading.proofs.Steps.{known}
 use Rattle.term_reading.proofs.Answers.{text-read}
 use Rattle.term_reading.proofs.read_packet.Statement.{statement}
 use Rattle.term_reading.proofs.read_packet.Tie as tie
-use Rattle.term_reading.proofs.read_packet.Reads as reads
-use Rattle.term_reading.proofs.read_packet.Lts as lts
-use Rattle.term_reading.proofs.put_packet.Reads as put-packet-reads
-use Rattle.term_reading.proofs.read_whole.Reads as read-whole-reads
+
+-- the part of the array that was lent for the facts, put back in its place, is as long as before
+as-long : (c : tie.After-read-whole) → length (c .read-whole .last .1 .1 .1 .0 ++ []) ≡ factsRoom
+as-long c = let read = c .read-whole in omega (arith, read .kept .1 .1 .1 .0, ap length (append-nil (read .last .1 .1 .1 .0)))
 
 sub-read-whole : tie.Need-sub-read-whole
 sub-read-whole c = search needs
@@ -31,16 +32,19 @@ enum-known-read : tie.Need-enum-known-read
 enum-known-read c = search needs
 
 cast-t18 : tie.Need-cast-t18
-cast-t18 c = omega (arith, known (c .before .before .before .before .read-whole .ensures) (c .before .read .given .1) .inside, c .before .before .before .before .before .before .before .before .pre)
+cast-t18 c =
+    let whole = c .before .before .before .before in
+    let none = known (whole .read-whole .ensures) (c .before .read .given .1) in
+    omega (arith, none .inside, whole .before .before .before .before .pre)
 
 enum-known-read-2 : tie.Need-enum-known-read-2
 enum-known-read-2 c = search needs
 
 slice-aggregate-put-packet : tie.Need-slice-aggregate-put-packet
-slice-aggregate-put-packet c = let read = c .before .before .before .before .before .read-whole in omega (arith, read .kept .1 .1 .1 .0, ap length (append-nil (read .last .1 .1 .1 .0)))
+slice-aggregate-put-packet c = omega (arith, as-long (c .before .before .before .before .before))
 
 put-packet-requires : tie.Need-put-packet-requires
-put-packet-requires c κs = let read = c .before .before .before .before .before .before .read-whole in omega (arith, read .kept .1 .1 .1 .0, ap length (append-nil (read .last .1 .1 .1 .0)))
+put-packet-requires c κs = omega (arith, as-long (c .before .before .before .before .before .before))
 
 returns : tie.Need-returns
 returns c = no-term _ (known (c .before .before .before .before .read-whole .ensures) (c .before .read .given .1)) refl refl
@@ -50,10 +54,12 @@ same-length c = search needs
 
 returns-2 : tie.Need-returns-2
 returns-2 c =
-    let s = c .before .before .before .before .before .before .before .before .before .before .before .before .before .before in
-    let read = c .before .before .before .before .before .before .before .before .before .before .read-whole in
-    text-read (known (read .ensures) (c .before .before .before .before .before .before .before .read2 .given .1)) _ refl (sym (append-nil (read .last .1 .1 .1 .0))) (omega (arith, s .fits .n))
-    (omega (arith, s .fits .v)) (c .before .before .before .put-packet .ensures)
+    let read = c .before .before .before .before .before .before .before in
+    let whole = read .before .before .before in
+    let s = whole .before .before .before .before in
+    let joined = append-nil (whole .read-whole .last .1 .1 .1 .0) in
+    text-read (known (whole .read-whole .ensures) (read .read2 .given .1)) _ refl (sym joined) (omega (arith, s .fits .n)) (omega (arith, s .fits .v))
+    (c .before .before .before .put-packet .ensures)
 
 pub read-packet-spec : {M : Type 1} → statement M
 read-packet-spec =

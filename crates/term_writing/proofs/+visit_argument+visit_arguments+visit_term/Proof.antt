@@ -15,7 +15,8 @@ use Rattle.term_writing.specs.Tree.{Walk, termFrom}
 use Rattle.term_writing.specs.Visiting.{signBefore, unmarked, Through, Failed, Told}
 use Rattle.term_writing.proofs.Answers.{answer-yes, answer-no, handed-on, handed-no}
 use Rattle.term_writing.proofs.Visits.{link-failed, joint-failed, onward-failed, onward-too-deep, onward-met}
-use Rattle.term_writing.proofs.Steps.{link-room, link-left, head-room, head-left, closing-short, unknown-told, known-told, textBelow, none-told, more-told, joint-told}
+use Rattle.term_writing.proofs.Steps.{link-room, link-left, head-room, head-left, closing-short, unknown-told}
+use Rattle.term_writing.proofs.Steps.{known-told, textBelow, none-told, four-told, more-told, joint-told}
 use Rattle.term_writing.proofs.visit_argument.Reads as visit-argument
 use Rattle.term_writing.proofs.visit_argument.Kinds as visit-argument-kinds
 use Rattle.term_writing.proofs.+visit_argument+visit_arguments+visit_term.Lts-visit_argument as visit-argument-lts
@@ -28,6 +29,7 @@ use Rattle.term_writing.proofs.+visit_argument+visit_arguments+visit_te
 use Rattle.joints.proofs.kind_at.Reads as kind-at-reads
 use Rattle.joints.proofs.link_at.Reads as link-at-reads
 use Rattle.term_writing.proofs.link_of_turn.Reads as link-of-turn-reads
+use Rattle.term_writing.proofs.none_ahead.Reads as none-ahead-reads
 use Rattle.term_writing.proofs.put_closing.Reads as put-closing-reads
 use Rattle.term_writing.proofs.put_head.Reads as put-head-reads
 use Rattle.term_writing.proofs.put_link.Reads as put-link-reads
@@ -76,6 +78,8 @@ argument-calls t = (
 
 abbrev arguments-calls : ℕ → visit-arguments-lts.Claims
 arguments-calls t = (
+  none-ahead-reads.Asked,
+  none-ahead-reads.Learnt,
   link-of-turn-reads.Asked,
   link-of-turn-reads.Learnt,
   link-at-reads.Asked,
@@ -106,7 +110,8 @@ visit-argument-returns : (t : ℕ) → visit-argument-lts.Need-returns (argument
 visit-argument-returns t c =
     let a = c .before .before .before .before .args in
     let S = blockForm (a .block .now) in
-    answer-yes (unknown-told S (signBefore (a .from) (a .at)) (a .l) (a .below) (a .at) (termFrom S (a .below) (a .c)) (a .to .now) (a .seen .now) (c .if1 .taken))
+    answer-yes
+    (unknown-told S (signBefore (a .from) (a .at)) (a .l) (a .below) (a .at) (termFrom S (a .below) (a .c)) (a .to .now) (a .seen .now) (c .if1 .taken))
 
 visit-argument-returns-2 : (t : ℕ) → visit-argument-lts.Need-returns-2 (argument-calls t) (visit-argument-at t) visit-argument.Post
 visit-argument-returns-2 t c =
@@ -184,37 +189,59 @@ visit-argument-returns-4 t c =
     (visit .visit-term .ensures)
 
 -- the arguments, one after the other
-abbrev visit-arguments-Inv-loop : visit-arguments-lts.InvT-loop
-visit-arguments-Inv-loop block j below to₀ from seen₀ at₀ turn₀ to seen at turn =
+abbrev Inv : visit-arguments-lts.InvT-loop
+Inv block j below to₀ from seen₀ at₀ turn₀ to seen at turn =
     (turn ≤ 16) × (length seen ≡ length seen₀) ×
     Told (textBelow (blockForm block) below j turn) (Through (blockForm block) j turn) (suc below) 0 from to₀ to seen₀ seen at
 
-abbrev visit-arguments-μ-loop : visit-arguments-lts.MeasureT-loop
-visit-arguments-μ-loop block j below to₀ from seen₀ at₀ turn₀ to seen at turn = 16 - turn
+abbrev μ : visit-arguments-lts.MeasureT-loop
+μ block j below to₀ from seen₀ at₀ turn₀ to seen at turn = 16 - turn
 
-visit-arguments-loop-holds : (t : ℕ) → visit-arguments-lts.Need-loop-holds (arguments-calls t) (visit-arguments-at t) visit-arguments.Post visit-arguments-Inv-loop visit-arguments-μ-loop
+visit-arguments-loop-holds : (t : ℕ) → visit-arguments-lts.Need-loop-holds (arguments-calls t) (visit-arguments-at t) visit-arguments.Post Inv μ
 visit-arguments-loop-holds t c =
     let a = c .before .before .before .args in
     (omega arith, refl, none-told (blockForm (a .block .now)) (a .below) (a .j) (a .from) (a .to .now) (a .seen .now))
 
-visit-arguments-link-of-turn-requires : (t : ℕ) → visit-arguments-lts.Need-link-of-turn-requires (arguments-calls t) (visit-arguments-at t) visit-arguments.Post visit-arguments-Inv-loop visit-arguments-μ-loop
+visit-arguments-none-ahead-requires : (t : ℕ) → visit-arguments-lts.Need-none-ahead-requires (arguments-calls t) (visit-arguments-at t) visit-arguments.Post Inv μ
+visit-arguments-none-ahead-requires t c κs =
+    let s = c .before .before .before .before .before in
+    let r = s .pre .1 .0 in
+    (r .session, omega (arith, s .pre .1 .1 .0, r .sound .few))
+
+visit-arguments-add-turn : (t : ℕ) → visit-arguments-lts.Need-add-turn (arguments-calls t) (visit-arguments-at t) visit-arguments.Post Inv μ
+visit-arguments-add-turn t c = record { fits = omega (arith, c .before .none-ahead .ensures (c .if1 .taken) .0) }
+
+visit-arguments-loop-less : (t : ℕ) → visit-arguments-lts.Need-loop-less (arguments-calls t) (visit-arguments-at t) visit-arguments.Post Inv μ
+visit-arguments-loop-less t c = omega (arith, c .before .none-ahead .ensures (c .if1 .taken) .0)
+
+visit-arguments-loop-again : (t : ℕ) → visit-arguments-lts.Need-loop-again (arguments-calls t) (visit-arguments-at t) visit-arguments.Post Inv μ
+visit-arguments-loop-again t c =
+    let L = c .before .before .before .loop in
+    let a = c .before .before .before .before .before .before .before .args in
+    let none = c .before .none-ahead .ensures (c .if1 .taken) in (
+      omega (arith, none .0),
+      L .inv .1,
+      four-told (blockForm (a .block .now)) (a .below) (a .j) (none .0) (none .1) (L .inv .2),
+    )
+
+visit-arguments-link-of-turn-requires : (t : ℕ) → visit-arguments-lts.Need-link-of-turn-requires (arguments-calls t) (visit-arguments-at t) visit-arguments.Post Inv μ
 visit-arguments-link-of-turn-requires t c κs = omega arith
 
-visit-arguments-cast-link-at : (t : ℕ) → visit-arguments-lts.Need-cast-link-at (arguments-calls t) (visit-arguments-at t) visit-arguments.Post visit-arguments-Inv-loop visit-arguments-μ-loop
+visit-arguments-cast-link-at : (t : ℕ) → visit-arguments-lts.Need-cast-link-at (arguments-calls t) (visit-arguments-at t) visit-arguments.Post Inv μ
 visit-arguments-cast-link-at t c = omega arith
 
-visit-arguments-link-at-requires : (t : ℕ) → visit-arguments-lts.Need-link-at-requires (arguments-calls t) (visit-arguments-at t) visit-arguments.Post visit-arguments-Inv-loop visit-arguments-μ-loop
+visit-arguments-link-at-requires : (t : ℕ) → visit-arguments-lts.Need-link-at-requires (arguments-calls t) (visit-arguments-at t) visit-arguments.Post Inv μ
 visit-arguments-link-at-requires t c κs =
-    let s = c .before .before .before .before .before .before in
+    let s = c .before .before .before .before .before .before .before .before in
     let r = s .pre .1 .0 in
     (r .session, omega (arith, s .pre .1 .1 .0, r .sound .few), omega (arith, c .link-of-turn .ensures))
 
-visit-arguments-visit-argument-requires : (t : ℕ) → visit-arguments-lts.Need-visit-argument-requires (arguments-calls t) (visit-arguments-at t) visit-arguments.Post visit-arguments-Inv-loop visit-arguments-μ-loop
+visit-arguments-visit-argument-requires : (t : ℕ) → visit-arguments-lts.Need-visit-argument-requires (arguments-calls t) (visit-arguments-at t) visit-arguments.Post Inv μ
 visit-arguments-visit-argument-requires t c κs =
     let read = c .before .before in
     let turn = read .before in
-    let L = turn .before .before .loop in
-    let s = turn .before .before .before .before .before .before in
+    let L = turn .before .before .before .before .loop in
+    let s = turn .before .before .before .before .before .before .before .before in
     let r = s .pre .1 .0 in
     let e = read .link-at .ensures in
     let small : turn .link-of-turn .result < 16 = omega (arith, turn .link-of-turn .ensures) in (
@@ -231,55 +258,55 @@ visit-arguments-visit-argument-requires t c κs =
       ),
     )
 
-visit-arguments-same-length : (t : ℕ) → visit-arguments-lts.Need-same-length (arguments-calls t) (visit-arguments-at t) visit-arguments.Post visit-arguments-Inv-loop visit-arguments-μ-loop
+visit-arguments-same-length : (t : ℕ) → visit-arguments-lts.Need-same-length (arguments-calls t) (visit-arguments-at t) visit-arguments.Post Inv μ
 visit-arguments-same-length t c =
     let visit = c .before .before .before .before .before .before in
-    visit .visit-argument .kept .1 .1 .1 .1 .0 ∙ visit .before .before .before .before .before .before .loop .inv .2 .put .size
+    visit .visit-argument .kept .1 .1 .1 .1 .0 ∙ visit .before .before .before .before .before .before .before .before .loop .inv .2 .put .size
 
-visit-arguments-same-length-2 : (t : ℕ) → visit-arguments-lts.Need-same-length-2 (arguments-calls t) (visit-arguments-at t) visit-arguments.Post visit-arguments-Inv-loop visit-arguments-μ-loop
+visit-arguments-same-length-2 : (t : ℕ) → visit-arguments-lts.Need-same-length-2 (arguments-calls t) (visit-arguments-at t) visit-arguments.Post Inv μ
 visit-arguments-same-length-2 t c =
     let visit = c .before .before .before .before .before .before in
-    visit .visit-argument .kept .1 .1 .1 .1 .1 .1 .1 .0 ∙ visit .before .before .before .before .before .before .loop .inv .1
+    visit .visit-argument .kept .1 .1 .1 .1 .1 .1 .1 .0 ∙ visit .before .before .before .before .before .before .before .before .loop .inv .1
 
-visit-arguments-returns : (t : ℕ) → visit-arguments-lts.Need-returns (arguments-calls t) (visit-arguments-at t) visit-arguments.Post visit-arguments-Inv-loop visit-arguments-μ-loop
+visit-arguments-returns : (t : ℕ) → visit-arguments-lts.Need-returns (arguments-calls t) (visit-arguments-at t) visit-arguments.Post Inv μ
 visit-arguments-returns t c =
     let visit = c .before .before .before .before .before .before in
     let read = visit .before .before .before in
     let turn = read .before in
-    let L = turn .before .before .loop in
-    let a = turn .before .before .before .before .before .before .args in
+    let L = turn .before .before .before .before .loop in
+    let a = turn .before .before .before .before .before .before .before .before .args in
     let S = blockForm (a .block .now) in
-    let failed = not-true _ (c .if1 .taken) in
+    let failed = not-true _ (c .if2 .taken) in
     handed-no failed
     (link-failed S (a .j) (L .turn) (omega arith) (L .inv .2 .visited)
     (read .link-at .ensures ∙ ap (S .link (a .j)) (turn .link-of-turn .ensures)) (visit .visit-argument .ensures .no failed))
 
-visit-arguments-add-turn : (t : ℕ) → visit-arguments-lts.Need-add-turn (arguments-calls t) (visit-arguments-at t) visit-arguments.Post visit-arguments-Inv-loop visit-arguments-μ-loop
-visit-arguments-add-turn t c = omega arith
+visit-arguments-add-turn-2 : (t : ℕ) → visit-arguments-lts.Need-add-turn-2 (arguments-calls t) (visit-arguments-at t) visit-arguments.Post Inv μ
+visit-arguments-add-turn-2 t c = omega arith
 
-visit-arguments-loop-less : (t : ℕ) → visit-arguments-lts.Need-loop-less (arguments-calls t) (visit-arguments-at t) visit-arguments.Post visit-arguments-Inv-loop visit-arguments-μ-loop
-visit-arguments-loop-less t c = omega arith
+visit-arguments-loop-less-2 : (t : ℕ) → visit-arguments-lts.Need-loop-less-2 (arguments-calls t) (visit-arguments-at t) visit-arguments.Post Inv μ
+visit-arguments-loop-less-2 t c = omega arith
 
-visit-arguments-loop-again : (t : ℕ) → visit-arguments-lts.Need-loop-again (arguments-calls t) (visit-arguments-at t) visit-arguments.Post visit-arguments-Inv-loop visit-arguments-μ-loop
-visit-arguments-loop-again t c =
+visit-arguments-loop-again-2 : (t : ℕ) → visit-arguments-lts.Need-loop-again-2 (arguments-calls t) (visit-arguments-at t) visit-arguments.Post Inv μ
+visit-arguments-loop-again-2 t c =
     let visit = c .before .before .before .before .before .before in
     let read = visit .before .before .before in
     let turn = read .before in
-    let L = turn .before .before .loop in
-    let a = turn .before .before .before .before .before .before .args in (
+    let L = turn .before .before .before .before .loop in
+    let a = turn .before .before .before .before .before .before .before .before .args in (
       omega arith,
       visit .visit-argument .kept .1 .1 .1 .1 .1 .1 .1 .0 ∙ L .inv .1,
       more-told (blockForm (a .block .now)) (a .below) (a .j) (omega arith) (turn .link-of-turn .ensures) (read .link-at .ensures) (L .inv .2)
-          (visit .visit-argument .ensures .yes (not-false _ (c .if1 .left))),
+          (visit .visit-argument .ensures .yes (not-false _ (c .if2 .left))),
     )
 
-visit-arguments-same-length-3 : (t : ℕ) → visit-arguments-lts.Need-same-length-3 (arguments-calls t) (visit-arguments-at t) visit-arguments.Post visit-arguments-Inv-loop visit-arguments-μ-loop
+visit-arguments-same-length-3 : (t : ℕ) → visit-arguments-lts.Need-same-length-3 (arguments-calls t) (visit-arguments-at t) visit-arguments.Post Inv μ
 visit-arguments-same-length-3 t c = c .before .loop .inv .2 .put .size
 
-visit-arguments-same-length-4 : (t : ℕ) → visit-arguments-lts.Need-same-length-4 (arguments-calls t) (visit-arguments-at t) visit-arguments.Post visit-arguments-Inv-loop visit-arguments-μ-loop
+visit-arguments-same-length-4 : (t : ℕ) → visit-arguments-lts.Need-same-length-4 (arguments-calls t) (visit-arguments-at t) visit-arguments.Post Inv μ
 visit-arguments-same-length-4 t c = c .before .loop .inv .1
 
-visit-arguments-returns-2 : (t : ℕ) → visit-arguments-lts.Need-returns-2 (arguments-calls t) (visit-arguments-at t) visit-arguments.Post visit-arguments-Inv-loop visit-arguments-μ-loop
+visit-arguments-returns-2 : (t : ℕ) → visit-arguments-lts.Need-returns-2 (arguments-calls t) (visit-arguments-at t) visit-arguments.Post Inv μ
 visit-arguments-returns-2 t c =
     let L = c .before .loop in
     let all : L .turn ≡ 16 = omega (arith, L .inv .0) in
@@ -309,7 +336,8 @@ visit-term-put-head-requires t c κs =
     let small = kind-small read in (
       omega (arith, term-inside s .0),
       omega arith,
-      head-room (a .seen .now) (term-inside s .1) (need .1) (read .kind-at .result) (a .at) (a .to .now) (term-inside s .0) small (need .2) (s .pre .1 .0 .to-size),
+      head-room (a .seen .now) (term-inside s .1) (need .1) (read .kind-at .result) (a .at) (a .to .now) (term-inside s .0) small (need .2)
+          (s .pre .1 .0 .to-size),
     )
 
 -- what the head leaves
@@ -330,7 +358,12 @@ visit-term-visit-arguments-requires t c κs =
     let r = s .pre .1 .0 in (
       omega (arith, s .pre .0),
       (
-        record { session = r .session; sound = r .sound; to-size = head .put-head .ensures .size ∙ r .to-size; seen-size = length-set (a .seen .now) (a .j) 1 ∙ r .seen-size },
+        record {
+          session = r .session;
+          sound = r .sound;
+          to-size = head .put-head .ensures .size ∙ r .to-size;
+          seen-size = length-set (a .seen .now) (a .j) 1 ∙ r .seen-size;
+        },
         (s .pre .1 .1 .0, omega (arith, room-left head, s .pre .1 .1 .2)),
       ),
     )
@@ -415,9 +448,13 @@ pub +visit-argument+visit-arguments+visit-term-spec : {M : Type 1} → statement
     (visit-argument-same-length-2 t)
     (visit-argument-returns-4 t))
     (λ t. visit-arguments-lts.spec (arguments-calls t) (visit-arguments-at t) visit-arguments.Post
-    visit-arguments-Inv-loop
-    visit-arguments-μ-loop
+    Inv
+    μ
     (visit-arguments-loop-holds t)
+    (visit-arguments-none-ahead-requires t)
+    (visit-arguments-add-turn t)
+    (visit-arguments-loop-less t)
+    (visit-arguments-loop-again t)
     (visit-arguments-link-of-turn-requires t)
     (visit-arguments-cast-link-at t)
     (visit-arguments-link-at-requires t)
@@ -425,9 +462,9 @@ pub +visit-argument+visit-arguments+visit-term-spec : {M : Type 1} → statement
     (visit-arguments-same-length t)
     (visit-arguments-same-length-2 t)
     (visit-arguments-returns t)
-    (visit-arguments-add-turn t)
-    (visit-arguments-loop-less t)
-    (visit-arguments-loop-again t)
+    (visit-arguments-add-turn-2 t)
+    (visit-arguments-loop-less-2 t)
+    (visit-arguments-loop-again-2 t)
     (visit-arguments-same-length-3 t)
     (visit-arguments-same-length-4 t)
     (visit-arguments-returns-2 t))

@@ -1,7 +1,7 @@
 -- `term_writing::put_byte` meets its contract: one store.
 -- Assumes nothing.
 use borrow.Author.Needs.{needs}
-use Rattle.term_writing.proofs.Texts.{byte-put}
+use Rattle.writing.proofs.Putting.{byte-put}
 use Rattle.term_writing.proofs.put_byte.Statement.{statement}
 use Rattle.term_writing.proofs.put_byte.Tie as tie
 

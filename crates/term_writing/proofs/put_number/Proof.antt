@@ -5,7 +5,7 @@ use native.Mathlib.Omega.{arith}
 use lib.ListN.{length}
 use borrow.Author.Needs.{needs}
 use Rattle.decimals.proofs.Decimals.{one-digit}
-use Rattle.term_writing.proofs.Texts.{two-digits, one-digit-put, two-digits-put}
+use Rattle.term_writing.proofs.Texts.{from-two-digits, one-digit-put, two-digits-put}
 use Rattle.term_writing.proofs.put_number.Statement.{statement}
 use Rattle.term_writing.proofs.put_number.Tie as tie
 
@@ -36,7 +36,7 @@ put-byte-requires-2 : tie.Need-put-byte-requires-2
 put-byte-requires-2 c κs =
     let test = c .before .before in
     let s = test .before .before in
-    omega (arith, s .pre .1, ap length (two-digits (s .args .x) (test .if1 .left) (s .pre .0)))
+    omega (arith, s .pre .1, ap length (from-two-digits (s .args .x) (test .if1 .left) (s .pre .0)))
 
 cast-digit-2 : tie.Need-cast-digit-2
 cast-digit-2 c = search needs
@@ -50,7 +50,7 @@ put-byte-requires-3 c κs =
     let test = first .before .before .before in
     let s = test .before .before in
     let p = first .put-byte2 .ensures in
-    omega (arith, s .pre .1, p .size, p .ends, ap length (two-digits (s .args .x) (test .if1 .left) (s .pre .0)))
+    omega (arith, s .pre .1, p .size, p .ends, ap length (from-two-digits (s .args .x) (test .if1 .left) (s .pre .0)))
 
 same-length-2 : tie.Need-same-length-2
 same-length-2 c = search needs
