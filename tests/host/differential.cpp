@@ -265,6 +265,16 @@ template <typename Check> bool check_tells_apart(const char* name, Check failing
     return good && caught == must_fail.size();
 }
 
+// What fails first in 300 rounds of a check that goes by seeds, or nothing.
+template <typename Rounds> std::string first_failing_round(const paper::Calls& calls)
+{
+    std::string problem;
+    typename Rounds::Counts counts;
+    for (std::uint64_t seed = 0; seed < 300 && problem.empty(); seed++)
+        problem = Rounds::failing(calls, seed, counts);
+    return problem;
+}
+
 // Sessions rest on tables that can be opened.
 bool tables_are_lawful()
 {
@@ -361,14 +371,7 @@ bool self_check(size_t most_calls, bool verbose)
                  Fault::new_link_still_applies, Fault::new_kind_still_applies, Fault::new_join_still_applies,
                  Fault::ask_stores}}));
     good &= check_tells_apart(
-        "demand 3",
-        [](const paper::Calls& calls) {
-            std::string problem;
-            Demand3::Counts counts;
-            for (std::uint64_t seed = 0; seed < 300 && problem.empty(); seed++)
-                problem = Demand3::failing(calls, seed, counts);
-            return problem;
-        },
+        "demand 3", first_failing_round<Demand3>,
         all_of({wrong_places_of_clashes,
                 {Fault::joins_stop_at_links, Fault::unknown_link_rules_out, Fault::clash_keeps_earlier_facts,
                  Fault::class_named_by_largest, Fault::refuses_every_packet, Fault::takes_first_packet_only,
@@ -386,14 +389,7 @@ bool self_check(size_t most_calls, bool verbose)
          Fault::rest_of_text_ignored, Fault::early_end_told_at_last_byte, Fault::out_of_range_before_no_term,
          Fault::out_of_range_at_sign, Fault::joint_v_read, Fault::kind_0_out_of_range, Fault::rest_of_packet_cleared});
     good &= check_tells_apart(
-        "terms there and back",
-        [](const paper::Calls& calls) {
-            std::string problem;
-            TermTrips::Counts counts;
-            for (std::uint64_t seed = 0; seed < 300 && problem.empty(); seed++)
-                problem = TermTrips::failing(calls, seed, counts);
-            return problem;
-        },
+        "terms there and back", first_failing_round<TermTrips>,
         {Fault::term_17_deep_read, Fault::term_16_deep_not_read, Fault::deep_term_told_late,
          Fault::early_end_told_at_last_byte, Fault::kind_0_out_of_range, Fault::all_links_of_outermost,
          Fault::joined_joints_left_out, Fault::loop_at_chosen_left_out, Fault::kind_not_reached_left_out,

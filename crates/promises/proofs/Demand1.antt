@@ -3,12 +3,12 @@
 use mathlib.Core.Path.{_≡_, refl, sym, _∙_, ap}
 use mathlib.Core.Bool.{Bool, true, false, cond, true≢false}
 use mathlib.Core.List.{List, [], _∷_}
-use Prim.Native.Nat.{ℕ, _+_}
+use Prim.Native.Nat.{ℕ}
 use lib.Dec.{eqb, leb, ltb}
 use lib.ListN.{length}
 use Rattle.replies.specs.declared.Cause.the-variants.{BadSize, ShortOutput, OutOfRange, TooManyFacts}
 use Rattle.replies.specs.declared.Reply.{Reply}
-use Rattle.replies.specs.declared.Reply.the-variants.{Done, Refused}
+use Rattle.replies.specs.declared.Reply.the-variants.{Done}
 use Rattle.replies.specs.Replies.{number, refuses, unless}
 use Rattle.meaning.specs.Rule.{Rule}
 use Rattle.reach.specs.Reached.{ReachReply}
@@ -24,9 +24,10 @@ use Rattle.outputs.proofs.Output.{output-stays}
 use Rattle.writing.specs.Write.{solvedForm, writeReply, writtenOutput}
 use Rattle.joints.specs.Layout.{kindsOf, jointsOf}
 use Rattle.blocks.specs.WellFormed.{blockReply}
-use Rattle.terms.specs.Term.{Term, Token, spell, termTokens}
+use Rattle.terms.specs.Term.{Term, Token, termTokens}
 use Rattle.terms.specs.Facts.{termFacts}
-use Rattle.term_reading.specs.Range.{inRange, rangeReply}
+use Rattle.term_reading.specs.Range.{rangeReply}
+use Rattle.term_reading.proofs.InRange.{range-holds}
 use Rattle.term_reading.specs.ReadTerm.{ReadTerm, longestText, mostFacts, readTermRefusal, termPacket, termReply, termOutput}
 use Rattle.term_reading.specs.ReadTerm.ReadTerm.{refused as read-refused, no-term, term}
 use Rattle.term_writing.specs.WriteTerm.{WriteTerm, writeTermRefusal, writtenText}
@@ -74,13 +75,8 @@ write-answers b out =
 
 -- reading a term and writing one
 range-gives : (n v offset : ℕ) (ks : List Token) → gives readTermNumbers (rangeReply n v offset ks) ≡ true
-unfolding rangeReply listed
-range-gives n v offset [] = refl
-range-gives n v offset (k ∷ ks) = by-token (inRange n v k) _ (range-gives n v (offset + length (spell k)) ks)
-  where
-    by-token : (t : Bool) (r : Reply) → gives readTermNumbers r ≡ true → gives readTermNumbers (cond t r (Refused OutOfRange offset)) ≡ true
-    by-token true r e = e
-    by-token false r e = refl
+unfolding listed
+range-gives n v offset ks = range-holds n v (λ r. gives readTermNumbers r ≡ true) refl (λ p. refl) offset ks
 
 term-gives : (b : List ℕ) (t : Term) (out : List ℕ) → gives readTermNumbers (termReply (kindsOf b) (jointsOf b) t out) ≡ true
 unfolding termReply listed

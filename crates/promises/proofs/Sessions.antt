@@ -14,7 +14,7 @@ use Rattle.replies.specs.declared.Reply.the-variants.{Done}
 use Rattle.replies.specs.Replies.{refuses}
 use Rattle.meaning.specs.declared.RigJoint.{RigJoint}
 use Rattle.meaning.specs.Picture.{Picture, Fact, All}
-use Rattle.meaning.specs.Rig.{Rig, meetOf, SameMeaning}
+use Rattle.meaning.specs.Rig.{meetOf, SameMeaning}
 use Rattle.meaning.specs.Rig.Profile.{every}
 use Rattle.meaning.proofs.Facts.{all-append, all-left, all-right}
 use Rattle.packets.specs.Facts.{rigFacts}

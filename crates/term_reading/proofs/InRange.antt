@@ -62,6 +62,16 @@ module _ (n v : ℕ) where
   tells offset [] a = refl
   tells offset (k ∷ ks) a = rw (a .0) (tells (offset + length (spell k)) ks (a .1))
 
+  -- whatever holds of "done" and of a number told out of range holds of the reply
+  pub range-holds : (Of : Reply → Type 0) → Of (Done 0) → ((p : ℕ) → Of (Refused OutOfRange p)) → (offset : ℕ) (ks : List Token) → Of (rangeReply n v offset ks)
+  unfolding rangeReply
+  range-holds Of fine wrong offset [] = fine
+  range-holds Of fine wrong offset (k ∷ ks) = chosen (inRange n v k) _ (range-holds Of fine wrong (offset + length (spell k)) ks)
+    where
+      chosen : (t : Bool) (r : Reply) → Of r → Of (cond t r (Refused OutOfRange offset))
+      chosen true r h = h
+      chosen false r h = wrong offset
+
   pub range-done : (offset : ℕ) (ks : List Token) → refuses (rangeReply n v offset ks) ≡ false → rangeReply n v offset ks ≡ Done 0
   range-done offset ks e = tells offset ks (told offset ks e)
 

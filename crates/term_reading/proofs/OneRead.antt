@@ -3,14 +3,14 @@
 -- Assumes nothing.
 use mathlib.Core.Path.{_≡_, sym, _∙_, ap}
 use mathlib.Core.Logic.{_↔_, _≢_}
-use mathlib.Core.Bool.{Bool, true, false, cond}
-use mathlib.Core.List.{List, [], _∷_, _++_}
-use Prim.Native.Nat.{ℕ, _+_, _≤_}
+use mathlib.Core.Bool.{Bool, true, false}
+use mathlib.Core.List.{List, _++_}
+use Prim.Native.Nat.{ℕ, _≤_}
 use native.Mathlib.Omega.{arith}
 use lib.Dec.{leb}
 use lib.ListN.{length, drop}
 use Rattle.replies.specs.declared.Cause.{Cause}
-use Rattle.replies.specs.declared.Cause.the-variants.{OutOfRange, TooManyFacts, ShortOutput, NoTerm as no-term-cause}
+use Rattle.replies.specs.declared.Cause.the-variants.{TooManyFacts, ShortOutput, NoTerm as no-term-cause}
 use Rattle.replies.specs.declared.Reply.{Reply}
 use Rattle.replies.specs.declared.Reply.the-variants.{Done, Refused}
 use Rattle.replies.specs.Replies.{causeNumber, number, unless}
@@ -18,13 +18,14 @@ use Rattle.replies.proofs.Laws.{not-both, first-holds}
 use Rattle.joints.specs.Layout.{kindsOf, jointsOf}
 use Rattle.outputs.specs.Output.{outputReply}
 use Rattle.outputs.proofs.Output.{has-room, all-put}
-use Rattle.terms.specs.Term.{Term, Token, spell, termTokens}
+use Rattle.terms.specs.Term.{Term, Token, termTokens}
 use Rattle.terms.specs.Language.{Reading}
 use Rattle.terms.specs.Facts.{termFacts}
 use Rattle.terms.proofs.OneReading.{one-reading, no-term-one}
-use Rattle.term_reading.specs.Range.{inRange, rangeReply}
+use Rattle.term_reading.specs.Range.{rangeReply}
 use Rattle.term_reading.specs.ReadTerm.{ReadTerm, readTermRefusal, termPacket, termReply, termOutput, mostFacts}
 use Rattle.term_reading.specs.ReadTerm.ReadTerm.{refused, no-term, term}
+use Rattle.term_reading.proofs.InRange.{range-holds}
 use Rattle.term_reading.proofs.Answers.{goes-out, is-put}
 
 pub read-term-one : (b text out : List ℕ) {r s : Reply} {x y : List ℕ} → ReadTerm b text out r x → ReadTerm b text out s y → (r ≡ s) × (x ≡ y)
@@ -79,13 +80,7 @@ unless-not true c h = λ e. omega (arith, e)
 unless-not false c h = h
 
 range-not : (n v offset : ℕ) (ks : List Token) → NotTwenty (rangeReply n v offset ks)
-unfolding rangeReply
-range-not n v offset [] = λ e. omega (arith, e)
-range-not n v offset (k ∷ ks) = chosen (inRange n v k) _ (range-not n v (offset + length (spell k)) ks)
-  where
-    chosen : (t : Bool) (r : Reply) → NotTwenty r → NotTwenty (cond t r (Refused OutOfRange offset))
-    chosen true r h = h
-    chosen false r h = λ e. omega (arith, e)
+range-not n v offset ks = range-holds n v NotTwenty (λ e. omega (arith, e)) (λ p e. omega (arith, e)) offset ks
 
 term-not : (b : List ℕ) (t : Term) (out : List ℕ) → NotTwenty (termReply (kindsOf b) (jointsOf b) t out)
 unfolding termReply outputReply

@@ -289,7 +289,7 @@ fn write_from(block: &[u8], root: u8, out: &mut [u8]) -> Reply
 }
 
 // Writes the rig as a term from the joint `root`, where it is a tree from there. A refusal writes nothing.
-pub fn write_term(block: &[u8], root: u64, out: &mut [u8]) -> Reply
+pub fn write(block: &[u8], root: u64, out: &mut [u8]) -> Reply
     ensures { λ r. ⌜ WriteTerm (now (block .entry)) root (now (out .entry)) r (now (out .exit)) ⌝ }
 {
     let reply = blocks::block_reply(block);

@@ -58,7 +58,7 @@ pub extern "C" fn rig_read_term(block: &[u8], text: &[u8], out: &mut [u8]) -> u6
 pub extern "C" fn rig_write_term(block: &[u8], joint: u64, out: &mut [u8]) -> u64
     ensures { λ r. ⌜ HostNumber (λ reply. WriteTerm (now (block .entry)) joint (now (out .entry)) reply (now (out .exit))) r ⌝ }
 {
-    replies::to_host(term_writing::write_term(block, joint, out))
+    replies::to_host(term_writing::write(block, joint, out))
 }
 
 // Writes the house table, 33 × 33 bytes.

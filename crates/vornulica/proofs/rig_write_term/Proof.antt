@@ -5,11 +5,11 @@ use Rattle.term_writing.proofs.WrittenText.{write-term-third}
 use Rattle.vornulica.proofs.rig_write_term.Statement.{statement}
 use Rattle.vornulica.proofs.rig_write_term.Tie as tie
 
-write-term-requires : tie.Need-write-term-requires
-write-term-requires c κs = search needs
+write-requires : tie.Need-write-requires
+write-requires c κs = search needs
 
 to-host-requires : tie.Need-to-host-requires
-to-host-requires c κs = write-term-third (c .before .before .write-term .ensures)
+to-host-requires c κs = write-term-third (c .before .before .write .ensures)
 
 same-length : tie.Need-same-length
 same-length c = search needs
@@ -18,4 +18,4 @@ returns : tie.Need-returns
 returns c = search needs
 
 pub rig-write-term-spec : {M : Type 1} → statement M
-rig-write-term-spec = tie.close (tie.spec write-term-requires to-host-requires same-length returns)
+rig-write-term-spec = tie.close (tie.spec write-requires to-host-requires same-length returns)

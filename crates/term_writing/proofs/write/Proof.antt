@@ -1,4 +1,4 @@
--- `term_writing::write_term` meets its contract: the reply to the block where it refuses, the root's range, and the well-formed case.
+-- `term_writing::write` meets its contract: the reply to the block where it refuses, the root's range, and the well-formed case.
 -- Assumes nothing.
 use mathlib.Core.Path.{_≡_, refl, sym, ap, _∙_}
 use mathlib.Core.Bool.{false}
@@ -10,8 +10,8 @@ use Rattle.blocks.specs.WellFormed.{blockReply}
 use Rattle.blocks.proofs.Shape.{GoodBlock, good-block, block-done}
 use Rattle.term_writing.specs.WriteTerm.WriteTerm.{refused}
 use Rattle.term_writing.proofs.Writes.{block-refused, root-refused}
-use Rattle.term_writing.proofs.write_term.Statement.{statement}
-use Rattle.term_writing.proofs.write_term.Tie as tie
+use Rattle.term_writing.proofs.write.Statement.{statement}
+use Rattle.term_writing.proofs.write.Tie as tie
 
 -- the block is not refused
 passed : (c : tie.Else1) → refuses (blockReply (c .before .before .before .before .before .args .block .now)) ≡ false
@@ -63,8 +63,8 @@ same-length c = search needs
 returns-3 : tie.Need-returns-3
 returns-3 c = search needs
 
-pub write-term-spec : {M : Type 1} → statement M
-write-term-spec =
+pub write-spec : {M : Type 1} → statement M
+write-spec =
     tie.close
     (tie.spec
     block-reply-requires
