@@ -15,6 +15,7 @@ use borrow.Author.Tests.{eq-eqb, lt-ltb, le-ltb}
 use Rattle.meaning.specs.Picture.{rename}
 use Rattle.meaning.specs.Form.{Form, unknown, linksFrom, factsAt, factsFrom, rigJoint, takenFacts, classes}
 use Rattle.meaning.specs.Solving.{Smallest, Well}
+use Rattle.meaning.proofs.Classes.{classes-all}
 use Rattle.runs.proofs.Each.{each-length, each-at}
 use Rattle.runs.proofs.Zeros.{zeros-at}
 use Rattle.joints.specs.Layout.{sessionSize, blockForm}
@@ -64,13 +65,8 @@ module _ {v : ℕ} {S : Form} (b : Blank v S) where
   pub blank-facts : takenFacts v S ≡ []
   blank-facts = ap (map (rename rigJoint)) (no-facts-from 0 v (omega arith))
 
-  own-class : (k : ℕ) → k ≤ v → classes S k ≡ k
-  unfolding classes
-  own-class zero h = refl
-  own-class (suc k) h = rw (eq-eqb _ _ (b .class k (omega arith))) (ap suc (own-class k (omega arith)))
-
   pub blank-classes : classes S v ≡ v
-  blank-classes = own-class v (omega arith)
+  blank-classes = classes-all S v (λ j h. b .class j h)
 
 -- a list that zeros follow
 pub zeros-behind : (xs : List ℕ) (m i : ℕ) → length xs ≤ i → getD (xs ++ replicate m 0) i 0 ≡ 0

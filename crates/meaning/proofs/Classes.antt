@@ -1,7 +1,7 @@
 -- Taking facts joins classes and parts none: a joint that is its class's smallest afterwards was so before, by the picture of the form
--- afterwards. So there are no more classes than before.
+-- afterwards. So there are no more classes than before. Where no joints are joined there are as many as joints.
 -- Assumes nothing.
-use mathlib.Core.Path.{_≡_}
+use mathlib.Core.Path.{_≡_, refl, ap}
 use mathlib.Core.Logic.{by-cases}
 use mathlib.Core.List.{List}
 use Prim.Native.Nat.{ℕ, zero, suc, _<_, _≤_}
@@ -13,6 +13,12 @@ use Rattle.meaning.specs.Picture.{Fact}
 use Rattle.meaning.specs.Form.{Form, classes}
 use Rattle.meaning.specs.Solving.{Well, Models, Taken}
 use Rattle.meaning.proofs.Canon.{canon, canon-placing, canon-models}
+
+-- as many classes as joints, where none are joined
+pub classes-all : (S : Form) (k : ℕ) → ((j : ℕ) → j < k → S .class j ≡ j) → classes S k ≡ k
+unfolding classes
+classes-all S zero apart = refl
+classes-all S (suc k) apart = rw (eq-eqb (S .class k) k (apart k (omega arith))) (ap suc (classes-all S k (λ j h. apart j (omega arith))))
 
 module _ {n v : ℕ} {meet : ℕ → ℕ → ℕ} {S T : Form} {fs : List (Fact ℕ)} (L : Lawful n meet) (pos : 0 < v) (w : Well n v S) (t : Taken n meet v S fs T) where
   smallest-before : (j : ℕ) → j < v → T .class j ≡ j → S .class j ≡ j

@@ -6,18 +6,18 @@ use mathlib.Core.Path.{_≡_, refl, sym, ap, _∙_, subst}
 use mathlib.Core.Logic.{_↔_, by-cases}
 use mathlib.Core.Bool.{false, true≢false}
 use mathlib.Core.List.{List, _++_, map}
-use Prim.Native.Nat.{ℕ, zero, suc, _<_, _≤_}
+use Prim.Native.Nat.{ℕ, _<_, _≤_}
 use native.Mathlib.Omega.{arith}
 use native.Mathlib.Decide.{decLt}
 use lib.ListN.{length, take, drop}
 use lib.Seq.{take-append-seam}
-use borrow.Author.Tests.{eq-eqb}
 use Rattle.replies.specs.declared.Reply.{Reply}
 use Rattle.replies.specs.declared.Reply.the-variants.{Done}
 use Rattle.replies.specs.Replies.{refuses, third}
+use Rattle.meaning.proofs.Classes.{classes-all}
 use Rattle.meaning.specs.declared.RigJoint.{RigJoint}
 use Rattle.meaning.specs.Picture.{Fact, rename}
-use Rattle.meaning.specs.Form.{Form, factsOf, classes, rigJoint}
+use Rattle.meaning.specs.Form.{factsOf, rigJoint}
 use Rattle.meaning.specs.Rig.{SameMeaning, meetOf}
 use Rattle.meaning.proofs.Facts.{all-rename, byNumber}
 use Rattle.packets.specs.Facts.{rigFacts}
@@ -71,12 +71,6 @@ puts bytes out = (Done (length bytes), bytes ++ drop (length bytes) out)
 exactly : {Allows : Reply → List ℕ → Type 0} {r : Reply} {x : List ℕ} → Allows r x →
     ((reply : Reply) (after : List ℕ) → Allows reply after → (reply ≡ r) × (after ≡ x)) → Exactly Allows (r, x)
 exactly {Allows} {r} {x} allowed only reply after = (only reply after, λ e. rw (e .0, e .1) allowed)
-
--- as many classes as joints, where none are joined
-classes-all : (S : Form) (k : ℕ) → ((j : ℕ) → j < k → S .class j ≡ j) → classes S k ≡ k
-unfolding classes
-classes-all S zero apart = refl
-classes-all S (suc k) apart = rw (eq-eqb (S .class k) k (apart k (omega arith))) (ap suc (classes-all S k (λ j h. apart j (omega arith))))
 
 module _ {b : List ℕ} (g : GoodBlock b) {root : ℕ} (inside : root < jointsOf b) (tree : TreeFrom (jointsOf b) (blockForm b) root) where
   fits : Fits (treeTerm b root) deepest

@@ -1,5 +1,6 @@
 -- The text that is written from a joint of a block: what a call that goes on past the first refusals knows of its block and joint, and that
--- the text has at most 17,418 bytes, so that the third number of writing is below 2^24.
+-- the text has at most 17,418 bytes, so that the third number of writing is below 2^24. This bound is rough and needs no visit: that of the
+-- visit, 768, is `text-short` in Writes.antt.
 -- Assumes nothing.
 use mathlib.Core.Path.{_≡_, ap}
 use mathlib.Core.List.{List, []}
