@@ -28,6 +28,25 @@ inline Kinds kinds_of(size_t n)
     return n == 33 ? host::house_kinds() : host::family_kinds(n, random);
 }
 
+// Every two kinds meet in kind 0 but for the last three, of which the last two meet in the first: the first triple
+// that tells is theirs.
+inline Kinds broken_late(size_t n)
+{
+    host::Random random(n);
+    Kinds kinds = host::flat_kinds(n, random);
+    kinds.table[(n - 2) * n + n - 1] = kinds.table[(n - 1) * n + n - 2] = static_cast<host::Byte>(n - 3);
+    return kinds;
+}
+
+// The same with kinds 2, 3 and 4.
+inline Kinds broken_early(size_t n)
+{
+    host::Random random(n);
+    Kinds kinds = host::flat_kinds(n, random);
+    kinds.table[3 * n + 4] = kinds.table[4 * n + 3] = 2;
+    return kinds;
+}
+
 // ------------------------------------------------------- a 25-joint humanoid
 
 struct Joint {

@@ -33,7 +33,7 @@
 /* The version of this header and of the library beside it. RIG_VERSION is the text "major.minor.patch". */
 #define RIG_VERSION_MAJOR 1
 #define RIG_VERSION_MINOR 2
-#define RIG_VERSION_PATCH 0
+#define RIG_VERSION_PATCH 1
 #define RIG_VERSION RIG_TEXT_OF(RIG_VERSION_MAJOR.RIG_VERSION_MINOR.RIG_VERSION_PATCH)
 #define RIG_TEXT_OF(expanded) RIG_TEXT_AS_IT_STANDS(expanded)
 #define RIG_TEXT_AS_IT_STANDS(text) #text

@@ -4,9 +4,8 @@
 #define HOST_COVERAGE_HPP
 
 #include "harness.hpp"
+#include "hits.hpp"
 #include "packets.hpp"
-
-#include <map>
 
 namespace host {
 
@@ -94,16 +93,7 @@ public:
             std::printf("\n");
         }
         std::printf("  verdicts   applies %zu, ruled out %zu, waits %zu\n", verdicts[1], verdicts[2], verdicts[3]);
-        std::string line = "  also hit  ";
-        for (const auto& [what, times] : hits) {
-            const std::string item = " " + what + ": " + std::to_string(times) + ";";
-            if (line.size() + item.size() > 100) {
-                std::printf("%s\n", line.c_str());
-                line = "            ";
-            }
-            line += item;
-        }
-        std::printf("%s\n", line.c_str());
+        hits.print("  also hit  ");
     }
 
     // What was never hit, though it has to be.
@@ -121,53 +111,51 @@ public:
         for (size_t verdict = 1; verdict < verdict_count; verdict++)
             if (verdicts[verdict] == 0)
                 text += "  never hit: verdict " + std::to_string(verdict) + "\n";
-        for (const char* what : {"reply 7 at take, place 3",
-                                 "reply 7 at take, place 4",
-                                 "reply 7 at take, place 5",
-                                 "reply 7 at ask, place 3",
-                                 "reply 7 at ask, place 4",
-                                 "reply 7 at ask, place 5",
-                                 "a rule of 8 ties",
-                                 "a rule of 32 joints",
-                                 "a rule of 1,088 facts",
-                                 "a rule at V = 64",
-                                 "1,088 facts taken",
-                                 "no facts taken",
-                                 "facts taken at n = 64",
-                                 "facts taken at V = 64",
-                                 "32 joins or more at once",
-                                 "a clash at the first of several facts",
-                                 "a clash with facts behind it",
-                                 "a clash at the 1,088th fact",
-                                 "a clash by kind 0",
-                                 "a clash through joins far away",
-                                 "a clash through joins far away, with facts behind it",
-                                 "a clash through joins far away, at the 1,088th fact",
-                                 "1,089 facts refused",
-                                 "over 60,000 bytes refused",
-                                 "an output of just the length",
-                                 "a solved form of over 4,000 bytes",
-                                 "a term 16 deep read",
-                                 "a term told to be too deep",
-                                 "a text that ends early",
-                                 "a term of 1,088 facts read",
-                                 "an output of just a term's packet",
-                                 "a tree of 64 joints written",
-                                 "a tree 16 deep written",
-                                 "a term with joints left out",
-                                 "an output of just a term",
-                                 "a chosen joint beyond 32 bits",
-                                 "null text",
-                                 "null output",
-                                 "null packet",
-                                 "null block",
-                                 "null table",
-                                 "n beyond 32 bits",
-                                 "V beyond 32 bits",
-                                 "opened with n = 2",
-                                 "opened with n = 64"})
-            if (hits.count(what) == 0)
-                text += std::string("  never hit: ") + what + "\n";
+        text += hits.missing({"reply 7 at take, place 3",
+                              "reply 7 at take, place 4",
+                              "reply 7 at take, place 5",
+                              "reply 7 at ask, place 3",
+                              "reply 7 at ask, place 4",
+                              "reply 7 at ask, place 5",
+                              "a rule of 8 ties",
+                              "a rule of 32 joints",
+                              "a rule of 1,088 facts",
+                              "a rule at V = 64",
+                              "1,088 facts taken",
+                              "no facts taken",
+                              "facts taken at n = 64",
+                              "facts taken at V = 64",
+                              "32 joins or more at once",
+                              "a clash at the first of several facts",
+                              "a clash with facts behind it",
+                              "a clash at the 1,088th fact",
+                              "a clash by kind 0",
+                              "a clash through joins far away",
+                              "a clash through joins far away, with facts behind it",
+                              "a clash through joins far away, at the 1,088th fact",
+                              "1,089 facts refused",
+                              "over 60,000 bytes refused",
+                              "an output of just the length",
+                              "a solved form of over 4,000 bytes",
+                              "a term 16 deep read",
+                              "a term told to be too deep",
+                              "a text that ends early",
+                              "a term of 1,088 facts read",
+                              "an output of just a term's packet",
+                              "a tree of 64 joints written",
+                              "a tree 16 deep written",
+                              "a term with joints left out",
+                              "an output of just a term",
+                              "a chosen joint beyond 32 bits",
+                              "null text",
+                              "null output",
+                              "null packet",
+                              "null block",
+                              "null table",
+                              "n beyond 32 bits",
+                              "V beyond 32 bits",
+                              "opened with n = 2",
+                              "opened with n = 64"});
         return text;
     }
 
@@ -176,7 +164,7 @@ private:
     static constexpr size_t verdict_count = 4;
     static constexpr size_t numbers[] = {0, 1, 2, 3, 4, 5, 6, 7, 8, 9, 10, 11, 12, 20, 21, 22, 23};
 
-    void hit(const std::string& what) { hits[what]++; }
+    void hit(const std::string& what) { hits.hit(what); }
 
     void count_read_term(const Call& call, const Answer& answer)
     {
@@ -288,7 +276,7 @@ private:
 
     size_t replies[name_count][number_count] = {};
     size_t verdicts[verdict_count] = {};
-    std::map<std::string, size_t> hits;
+    Hits hits;
 };
 
 } // namespace host

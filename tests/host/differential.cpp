@@ -1,6 +1,6 @@
-// The library against the plain version: random sessions from fixed seeds, and small inputs gone through one by one,
-// all texts of up to six signs among them. Then, without the plain version, the examples of the documents, small
-// sessions by the meaning, demand 3, and terms written and read back.
+// The library against the plain version: random sessions from fixed seeds, small inputs gone through one by one, all
+// texts of up to six signs among them, and tables near lawful ones. Then, without the plain version, the examples of
+// the documents, small sessions by the meaning, demand 3, and terms written and read back.
 //
 //   differential [--calls N]     at least N random calls, 250,000 if not given
 //   differential --session K     one session again, each of its calls described
@@ -14,6 +14,7 @@
 #include "examples.hpp"
 #include "library.hpp"
 #include "meaning.hpp"
+#include "near_lawful.hpp"
 #include "sweep.hpp"
 #include "term_examples.hpp"
 #include "term_sweep.hpp"
@@ -72,6 +73,7 @@ constexpr size_t calls_to_a_meaning_session = 800; // fewer of both in a short r
 constexpr size_t calls_of_a_long_run = 100000;
 constexpr size_t signs_of_every_text = 6; // and 4 in a short run
 constexpr size_t calls_to_a_term_trip = 500;
+constexpr size_t tables_near_lawful = 200000; // and a tenth of them in a short run
 
 // Terms: the examples worked by hand, every short text beside the plain version, and texts there and back.
 bool terms_hold(size_t calls_wanted)
@@ -108,6 +110,27 @@ bool terms_hold(size_t calls_wanted)
     return good;
 }
 
+bool tables_near_lawful_agree(size_t calls_wanted)
+{
+    const size_t tables_wanted = calls_wanted < calls_of_a_long_run ? tables_near_lawful / 10 : tables_near_lawful;
+    NearLawful::Counts counts;
+    size_t differing = 0;
+    for (std::uint64_t round = 0; counts.tables < tables_wanted && differing < most_differences_shown; round++) {
+        watch::now_at("tables near lawful ones, round " + std::to_string(round));
+        const std::string problem = NearLawful::failing(library_by_c, round, counts);
+        if (!problem.empty()) {
+            std::printf("%s\n", problem.c_str());
+            differing++;
+        }
+    }
+    counts.print(differing);
+    if (differing > 0)
+        return false; // cut short, so that what was missed says nothing
+    const std::string missing = counts.missing();
+    std::printf("%s", missing.c_str());
+    return missing.empty();
+}
+
 bool compare_with_library(size_t calls_wanted)
 {
     bool good = true;
@@ -131,6 +154,7 @@ bool compare_with_library(size_t calls_wanted)
     }
 
     good = terms_hold(calls_wanted) && good;
+    good = tables_near_lawful_agree(calls_wanted) && good;
 
     Side tried(library_by_c);
     Side plain(paper::calls(Fault::none));
@@ -340,6 +364,11 @@ const std::set<Fault> wrong_places_of_clashes = {
     Fault::clash_at_last_fact,
     Fault::far_clash_at_last_fact,
 };
+const std::set<Fault> faults_of_table_check = {
+    Fault::triple_place_swapped,       Fault::triple_place_from_second, Fault::triples_from_three,
+    Fault::neighbours_left_out,        Fault::first_above_last,         Fault::entry_equal_to_n_passes,
+    Fault::first_laws_in_three_passes, Fault::symmetry_unchecked,
+};
 const std::set<Fault> faults_of_terms = {
 #define PAPER_TERM_FAULT(name) Fault::name,
     PAPER_TERM_FAULTS(PAPER_TERM_FAULT)
@@ -395,6 +424,7 @@ bool self_check(size_t most_calls, bool verbose)
          Fault::joined_joints_left_out, Fault::loop_at_chosen_left_out, Fault::kind_not_reached_left_out,
          Fault::link_not_reached_left_out, Fault::lone_joint_refused, Fault::two_walks_pass,
          Fault::tree_16_deep_not_written, Fault::kind_of_chosen_left_out, Fault::rest_of_text_cleared});
+    good &= check_tells_apart("tables near lawful ones", first_failing_round<NearLawful>, faults_of_table_check);
     good &= faults_caught_by_stream(most_calls, verbose);
     return good;
 }

@@ -134,10 +134,25 @@ template <Fault fault> struct Paper {
             for (size_t j = 0; j < n; j++) {
                 const size_t ij = table[i * n + j];
                 for (size_t k = 0; k < n; k++)
-                    if (entry(table, n, ij, k) != entry(table, n, i, table[j * n + k]))
-                        return {3, has(Fault::triple_place_swapped) ? j * n + i : i * n + j};
+                    if (looked_at(i, j, k) && entry(table, n, ij, k) != entry(table, n, i, table[j * n + k]))
+                        return {3, has(Fault::triple_place_swapped)       ? j * n + i
+                                   : has(Fault::triple_place_from_second) ? j * n + k
+                                                                          : i * n + j};
             }
         return {};
+    }
+
+    // Every triple is, as 01 has it; the answers with fewer, by order 3, are held
+    // against these. Each fault passes over triples that order 3 looks at.
+    static constexpr bool looked_at(size_t i, size_t j, size_t k)
+    {
+        if constexpr (has(Fault::triples_from_three))
+            return i >= 3 && j >= 3 && i < k;
+        if constexpr (has(Fault::neighbours_left_out))
+            return i >= 2 && j >= 2 && i + 1 < k;
+        if constexpr (has(Fault::first_above_last))
+            return j >= 2 && k >= 2 && i > k;
+        return true;
     }
 
     // ------------------------------------------------------------- session block

@@ -1,5 +1,6 @@
-// A plain C++ version of documents 01 and 02, as far as the orders of 02 have landed (orders 1 and 2), written from the
-// papers alone, so that an agreement between it and the library says something about both.
+// A plain C++ version of documents 01 and 02, as far as the orders of 02 have landed (orders 1 to 3), written from the
+// papers alone, so that an agreement between it and the library says something about both. Order 3 changes no answer,
+// so the check of a table is still the one of 01, over all triples.
 //
 // The same source can be compiled with one deliberate fault at a time. The faults exist to show that the tests around
 // this file would notice them.
@@ -55,6 +56,10 @@ struct Calls {
     X(takes_first_packet_only)     \
     X(invented_joins)              \
     X(triple_place_swapped)        \
+    X(triple_place_from_second)    \
+    X(triples_from_three)          \
+    X(neighbours_left_out)         \
+    X(first_above_last)            \
     X(entry_equal_to_n_passes)     \
     X(first_laws_in_three_passes)  \
     X(symmetry_unchecked)          \

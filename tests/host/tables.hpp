@@ -132,6 +132,28 @@ inline Kinds house_kinds()
     return kinds;
 }
 
+// The same kinds and three more, numbered last, that meet no other kind but "any" and themselves in more than "none";
+// or, forked, with the last two of them under the first.
+inline Kinds with_three_last(const Kinds& kinds, bool forked)
+{
+    Kinds more;
+    more.n = kinds.n + 3;
+    more.table.resize(more.n * more.n);
+    const auto set_both = [&](size_t i, size_t j, size_t meet) {
+        more.table[i * more.n + j] = more.table[j * more.n + i] = static_cast<Byte>(meet);
+    };
+    for (size_t i = 0; i < kinds.n; i++)
+        for (size_t j = i; j < kinds.n; j++)
+            set_both(i, j, kinds.meet(i, j));
+    for (size_t i = kinds.n; i < more.n; i++) {
+        set_both(i, i, i);
+        set_both(i, kind_any, i);
+        if (forked)
+            set_both(i, kinds.n, i);
+    }
+    return more;
+}
+
 // Large tables cost the most time, for every call checks all their triples.
 inline size_t random_kind_count(Random& random)
 {
@@ -153,11 +175,8 @@ inline size_t random_kind_count(Random& random)
     return random.between(4, 16);
 }
 
-inline Kinds random_kinds(Random& random)
+inline Kinds kinds_of_some_shape(size_t n, Random& random)
 {
-    if (random.chance(18))
-        return house_kinds();
-    const size_t n = random_kind_count(random);
     switch (n < 4 ? 0 : random.below(8)) {
     case 0:
         return chain_kinds(n, random);
@@ -170,6 +189,11 @@ inline Kinds random_kinds(Random& random)
     default:
         return family_kinds(n, random);
     }
+}
+
+inline Kinds random_kinds(Random& random)
+{
+    return random.chance(18) ? house_kinds() : kinds_of_some_shape(random_kind_count(random), random);
 }
 
 // Breaks one law or several, in most cases.

@@ -13,6 +13,7 @@ use borrow.Author.Tests.{lt-ltb, ltb-true}
 use Rattle.kinds.specs.Kinds.{meetAt}
 use Rattle.kinds.specs.Laws.{Commutes, Associates, Lawful}
 use Rattle.kinds.proofs.Offset.{offset-lt}
+use Rattle.masks.specs.Masks.{Single}
 use Rattle.replies.specs.declared.Cause.{Cause}
 use Rattle.replies.specs.declared.Reply.{Reply}
 use Rattle.replies.specs.declared.Reply.the-variants.{Done, Refused}
@@ -40,12 +41,12 @@ module _ (n : ℕ) (table : List ℕ) where
   kept-right [] ys a = a
   kept-right (x ∷ xs) ys a = kept-right xs ys (a .1)
 
-  each-make : (f : ℕ → List Law) (m : ℕ) → ((k : ℕ) → k < m → Kept (f k)) → Kept (forEach m f)
+  pub each-make : (f : ℕ → List Law) (m : ℕ) → ((k : ℕ) → k < m → Kept (f k)) → Kept (forEach m f)
   unfolding forEach
   each-make f zero h = tt
   each-make f (suc m) h = kept-append (forEach m f) (f m) (each-make f m (λ k a. h k (omega arith))) (h m (omega arith))
 
-  each-use : (f : ℕ → List Law) (m : ℕ) → Kept (forEach m f) → (k : ℕ) → k < m → Kept (f k)
+  pub each-use : (f : ℕ → List Law) (m : ℕ) → Kept (forEach m f) → (k : ℕ) → k < m → Kept (f k)
   unfolding forEach
   each-use f zero a k h = absurd (omega arith)
   each-use f (suc m) a k h =
@@ -77,22 +78,38 @@ module _ (n : ℕ) (table : List ℕ) where
     λ z. each-make (λ q. Law.entry q ∷ []) (n * n) (λ p h. (passed _ _ (lt-ltb (getD table p 0) n (z p h)), tt)),
   )
 
+  -- what the laws that are kept say
+  pub singles-say : Kept (singles n) → (i : ℕ) → i < n → Single n table i
+  unfolding singles lawReply
+  singles-say a i hi =
+      let one = each-use (λ i. Law.self i ∷ Law.none i ∷ Law.any i ∷ []) n a i hi in
+      record { self = same _ _ (one .0); none = same _ _ (one .1 .0); any = same _ _ (one .1 .1 .0) }
+
+  pub pairs-say : Kept (pairs n) → Commutes n (meetAt n table)
+  unfolding pairs lawReply
+  pairs-say a i j hi hj = same _ _ (each-use (λ j. Law.swap i j ∷ []) n (each-use (λ i. forEach n (λ j. Law.swap i j ∷ [])) n a i hi) j hj .0)
+
+  -- of the triples with one first kind
+  pub triples-say :
+      (i : ℕ) → Kept (forEach n (λ j. forEach n (λ k. Law.group i j k ∷ []))) → (j k : ℕ) → j < n → k < n →
+      meetAt n table (meetAt n table i j) k ≡ meetAt n table i (meetAt n table j k)
+  unfolding lawReply
+  triples-say i a j k hj hk = same _ _ (each-use (λ k. Law.group i j k ∷ []) n (each-use (λ j. forEach n (λ k. Law.group i j k ∷ [])) n a j hj) k hk .0)
+
   kept-lawful : Kept (inOrder n) → Lawful n (meetAt n table)
-  unfolding singles pairs triples lawReply
+  unfolding triples
   kept-lawful a =
       let b = kept-right (entries n) (singles n ++ (pairs n ++ triples n)) a in
       let d = kept-right (singles n) (pairs n ++ triples n) b in
-      let one = each-use (λ i. Law.self i ∷ Law.none i ∷ Law.any i ∷ []) n (kept-left (singles n) (pairs n ++ triples n) b) in
-      let two = each-use (λ i. forEach n (λ j. Law.swap i j ∷ [])) n (kept-left (pairs n) (triples n) d) in
+      let one = singles-say (kept-left (singles n) (pairs n ++ triples n) b) in
       let three = each-use (λ i. forEach n (λ j. forEach n (λ k. Law.group i j k ∷ []))) n (kept-right (pairs n) (triples n) d) in
       record {
         closed = λ i j hi hj. kept-entries .0 (kept-left (entries n) (singles n ++ (pairs n ++ triples n)) a) (i * n + j) (offset-lt hi hj);
-        self = λ i hi. same _ _ (one i hi .0);
-        none = λ i hi. same _ _ (one i hi .1 .0);
-        any = λ i hi. same _ _ (one i hi .1 .1 .0);
-        swap = λ i j hi hj. same _ _ (each-use (λ b. Law.swap i b ∷ []) n (two i hi) j hj .0);
-        group = λ i j k hi hj hk.
-            same _ _ (each-use (λ z. Law.group i j z ∷ []) n (each-use (λ y. forEach n (λ z. Law.group i y z ∷ [])) n (three i hi) j hj) k hk .0);
+        self = λ i hi. one i hi .self;
+        none = λ i hi. one i hi .none;
+        any = λ i hi. one i hi .any;
+        swap = pairs-say (kept-left (pairs n) (triples n) d);
+        group = λ i j k hi hj hk. triples-say i (three i hi) j k hj hk;
       }
 
   lawful-closed : 0 < n → Lawful n (meetAt n table) → AllKinds n table

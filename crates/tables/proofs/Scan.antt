@@ -126,6 +126,14 @@ module _ {n : ℕ} {table : List ℕ} {r : Reply} {f : ℕ → List Law} {i m : 
   pub closes : m ≤ i → r ≡ firstBreach n table more
   closes h = l .is ∙ ap (λ (x : List Law). firstBreach n table (x ++ more)) (rest-end f h)
 
+-- a loop that begins at t, where nothing is broken before
+pub begins-at :
+    (n : ℕ) (table : List ℕ) (r : Reply) (f : ℕ → List Law) (m : ℕ) (more : List Law) (t : ℕ) → t ≤ m → Loop n table r f 0 m more →
+    ((x : ℕ) → x < t → refuses (firstBreach n table (f x)) ≡ false) → Loop n table r f t m more
+begins-at n table r f m more zero h l e = l
+begins-at n table r f m more (suc t) h l e =
+    rw add-one at (passes (begins-at n table r f m more t (omega arith) l (λ x a. e x (omega arith))) (omega arith) (e t (omega arith)))
+
 -- a loop whose turn is one law
 module _ {n : ℕ} {table : List ℕ} {r : Reply} {g : ℕ → Law} {i m : ℕ} {more : List Law} (l : Loop n table r (λ k. g k ∷ []) i m more) (h : i < m) where
   pub kept : refuses (lawReply n table (g i)) ≡ false → Loop n table r (λ k. g k ∷ []) (i + 1) m more

@@ -3,9 +3,12 @@ ghost use mathlib.Core.Path.{_≡_};
 ghost use mathlib.Core.List.{[], _∷_, _++_};
 ghost use Prim.Native.Nat.{_+_, _*_, _<_, _≤_};
 ghost use Rattle.replies.specs.declared.Cause.the-variants.{LawBroken};
+ghost use Rattle.replies.specs.declared.Reply.the-variants.{Done};
 ghost use Rattle.replies.specs.Replies.{unless};
+ghost use Rattle.kinds.specs.Kinds.{meetAt};
 ghost use Rattle.kinds.specs.Sizes.{Sized, AllKinds};
 ghost use Rattle.tables.specs.Check.{Law, lawReply, firstBreach, entries, singles, pairs, triples, tableReply};
+ghost use Rattle.tables.specs.Triples.{EarlierHold};
 use replies::Cause;
 use replies::Reply;
 
@@ -88,26 +91,27 @@ fn first_pair(table: &[u8], n: usize) -> Reply
     }
 }
 
-// Whether the triple keeps its law.
-fn groups(table: &[u8], n: usize, i: usize, j: usize, k: usize) -> bool
-    requires { ⌜ Sized n (now table) ⌝ ∗ ⌜ AllKinds n (now table) ⌝ ∗ ⌜ (i < n) × (j < n) × (k < n) ⌝ }
+// Whether the triple keeps its law, where ij is meet(i,j).
+fn groups(table: &[u8], n: usize, ij: usize, i: usize, j: usize, k: usize) -> bool
+    requires { ⌜ Sized n (now table) ⌝ ∗ ⌜ AllKinds n (now table) ⌝ ∗ ⌜ (ij < n) × (i < n) × (j < n) × (k < n) ⌝ ∗ ⌜ ij ≡ meetAt n (now table) i j ⌝ }
     ensures { λ r. ⌜ lawReply n (now (table .entry)) (Law.group i j k) ≡ unless r LawBroken (i * n + j) ⌝ }
 {
-    let ij = kinds::kind_at(table, n, i, j);
     let jk = kinds::kind_at(table, n, j, k);
     kinds::kind_at(table, n, ij, k) == kinds::kind_at(table, n, i, jk)
 }
 
-// The first triple that is not associative.
+// The first triple that is not associative. Where the laws before it hold, a triple with 0 or 1 in it is, and one read backwards says the
+// same: so only those without 0 and 1 whose first is below its last are looked at. No kind is above n - 1, so that it is the first of none.
 fn first_triple(table: &[u8], n: usize) -> Reply
-    requires { ⌜ Sized n (now table) ⌝ ∗ ⌜ AllKinds n (now table) ⌝ }
+    requires { ⌜ Sized n (now table) ⌝ ∗ ⌜ EarlierHold n (now table) ⌝ }
     ensures { λ r. ⌜ r ≡ firstBreach n (now (table .entry)) (triples n) ⌝ }
 {
     'triples: loop {
-        for i in 0..n {
-            for j in 0..n {
-                for k in 0..n {
-                    if !groups(table, n, i, j, k) {
+        for i in 2..n - 1 {
+            for j in 2..n {
+                let ij = kinds::kind_at(table, n, i, j);
+                for k in i + 1..n {
+                    if !groups(table, n, ij, i, j, k) {
                         break 'triples Reply::Refused(Cause::LawBroken, offset(n, i, j));
                     }
                 }
@@ -117,9 +121,9 @@ fn first_triple(table: &[u8], n: usize) -> Reply
     }
 }
 
-// The first law of two or three kinds that is broken.
+// The first law of two or three kinds that is broken, where those before it hold.
 fn first_several(table: &[u8], n: usize) -> Reply
-    requires { ⌜ Sized n (now table) ⌝ ∗ ⌜ AllKinds n (now table) ⌝ }
+    requires { ⌜ Sized n (now table) ⌝ ∗ ⌜ (firstBreach n (now table) (entries n) ≡ Done 0) × (firstBreach n (now table) (singles n) ≡ Done 0) ⌝ }
     ensures { λ r. ⌜ r ≡ firstBreach n (now (table .entry)) (pairs n ++ triples n) ⌝ }
 {
     let pair = first_pair(table, n);

@@ -4,7 +4,7 @@ use mathlib.Core.Path.{_∙_, sym}
 use Rattle.tables.specs.Check.{entries, singles}
 use Rattle.replies.proofs.Laws.{tested}
 use Rattle.tables.proofs.Scan.{first-of, second-of}
-use Rattle.tables.proofs.Lawfulness.{passes-kept, kept-entries}
+use Rattle.tables.proofs.Lawfulness.{passes-kept, kept-entries, passes-done}
 use borrow.Author.Needs.{needs}
 use Rattle.tables.proofs.first_breach.Statement.{statement}
 use Rattle.tables.proofs.first_breach.Tie as tie
@@ -31,8 +31,13 @@ returns-2 c = c .before .before .first-single .ensures
     ∙ first-of _ _ (singles _) _ (tested (c .before .before .first-single .ensures) (c .before .is-refusal2 .ensures) (c .if2 .taken)))
 
 first-several-requires : tie.Need-first-several-requires
-first-several-requires c κs = let p = c .before .before .before .before .before .before .before .pre in
-    (p, kept-entries _ _ .0 (passes-kept _ _ (entries _) (tested (c .before .before .before .before .before .first-entry .ensures) (c .before .before .before .before .is-refusal .ensures) (c .before .before .before .if1 .left))))
+first-several-requires c κs = (
+  c .before .before .before .before .before .before .before .pre,
+  (
+    passes-done _ _ (entries _) (tested (c .before .before .before .before .before .first-entry .ensures) (c .before .before .before .before .is-refusal .ensures) (c .before .before .before .if1 .left)),
+    passes-done _ _ (singles _) (tested (c .before .before .first-single .ensures) (c .before .is-refusal2 .ensures) (c .if2 .left)),
+  ),
+)
 
 returns-3 : tie.Need-returns-3
 returns-3 c = c .first-several .ensures

@@ -4,12 +4,14 @@ use mathlib.Core.Path.{_∙_, sym}
 use Rattle.tables.specs.Check.{pairs}
 use Rattle.replies.proofs.Laws.{tested}
 use Rattle.tables.proofs.Scan.{first-of, second-of}
+use Rattle.tables.proofs.Lawfulness.{passes-done}
+use Rattle.tables.proofs.Triples.{entries-kinds}
 use borrow.Author.Needs.{needs}
 use Rattle.tables.proofs.first_several.Statement.{statement}
 use Rattle.tables.proofs.first_several.Tie as tie
 
 first-pair-requires : tie.Need-first-pair-requires
-first-pair-requires c κs = search needs
+first-pair-requires c κs = let p = c .before .pre in (p .0, entries-kinds _ _ (p .1 .0))
 
 is-refusal-requires : tie.Need-is-refusal-requires
 is-refusal-requires c κs = search needs
@@ -19,7 +21,14 @@ returns c = c .before .before .first-pair .ensures
     ∙ sym (first-of _ _ (pairs _) _ (tested (c .before .before .first-pair .ensures) (c .before .is-refusal .ensures) (c .if1 .taken)))
 
 first-triple-requires : tie.Need-first-triple-requires
-first-triple-requires c κs = search needs
+first-triple-requires c κs = let p = c .before .before .before .before .pre in (
+  p .0,
+  record {
+    entries-hold = p .1 .0;
+    singles-hold = p .1 .1;
+    pairs-hold = passes-done _ _ (pairs _) (tested (c .before .before .first-pair .ensures) (c .before .is-refusal .ensures) (c .if1 .left));
+  },
+)
 
 returns-2 : tie.Need-returns-2
 returns-2 c = c .first-triple .ensures

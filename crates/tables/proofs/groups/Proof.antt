@@ -31,16 +31,13 @@ kind-at-requires-2 c κs = search needs
 kind-at-requires-3 : tie.Need-kind-at-requires-3
 kind-at-requires-3 c κs = search needs
 
-kind-at-requires-4 : tie.Need-kind-at-requires-4
-kind-at-requires-4 c κs = search needs
-
 returns : tie.Need-returns
 returns c =
-    let a = c .before .before .before .before .before .args in
-    sides (a .n) (a .table .now) (a .i) (a .j) (a .k) (c .before .before .before .kind-at .ensures .0) (c .before .before .kind-at2 .ensures .0)
-    (c .before .kind-at3 .ensures .0) (c .kind-at4 .ensures .0)
+    let a = c .before .before .before .before .args in
+    sides (a .n) (a .table .now) (a .i) (a .j) (a .k) (c .before .before .before .before .pre .1 .1 .1) (c .before .before .kind-at .ensures .0)
+    (c .before .kind-at2 .ensures .0) (c .kind-at3 .ensures .0)
 
 pub groups-spec : {M : Type 1} → statement M
 groups-spec =
     tie.close
-    (tie.spec kind-at-requires kind-at-requires-2 kind-at-requires-3 kind-at-requires-4 returns)
+    (tie.spec kind-at-requires kind-at-requires-2 kind-at-requires-3 returns)

@@ -1,0 +1,78 @@
+-- Loops over the triples that tell: they begin at 2, at 2 and behind the first kind, for nothing stands before; and each turn of the innermost
+-- has one law.
+-- Assumes nothing.
+use mathlib.Core.Path.{_≡_, refl, ap, _∙_}
+use mathlib.Core.Logic.{by-cases}
+use mathlib.Core.Bool.{Bool, true, false, cond}
+use mathlib.Core.List.{List, [], _∷_, _++_}
+use Prim.Native.Nat.{ℕ, _+_, _≤_, _<_}
+use native.Mathlib.Omega.{arith}
+use native.Mathlib.Decide.{decLt}
+use Rattle.replies.specs.declared.Cause.{Cause}
+use Rattle.replies.specs.declared.Reply.{Reply}
+use Rattle.replies.specs.declared.Reply.the-variants.{Done, Refused}
+use Rattle.replies.specs.Replies.{refuses}
+use Rattle.tables.specs.Check.{Law, lawReply, forEach, firstBreach}
+use Rattle.tables.specs.Triples.{telling, tellingTriples}
+use Rattle.tables.proofs.Scan.{Loop, rest, begins, begins-at, opens, passes, stops, closes, first-kept, first-broken, no-more}
+use Rattle.tables.proofs.Lawfulness.{Kept, kept-passes, each-make}
+use Rattle.tables.proofs.Triples.{tells, told}
+
+-- those of the triples that tell with first i and middle j, last k; with first i and middle j; with first i
+abbrev pub withLast : ℕ → ℕ → ℕ → List Law
+withLast i j k = cond (telling i j k) (Law.group i j k ∷ []) []
+
+abbrev pub withMiddle : ℕ → ℕ → ℕ → List Law
+withMiddle n i j = forEach n (withLast i j)
+
+abbrev pub withFirst : ℕ → ℕ → List Law
+withFirst n i = forEach n (withMiddle n i)
+
+module _ (n : ℕ) (table : List ℕ) where
+  not-told : (i j k : ℕ) → ((1 < i) × (1 < j) × (i < k) → ⊥) → Kept n table (withLast i j k)
+  not-told i j k f = by-test (telling i j k) refl
+    where
+      by-test : (t : Bool) → telling i j k ≡ t → Kept n table (cond t (Law.group i j k ∷ []) [])
+      by-test true e = absurd (f (told i j k e))
+      by-test false e = tt
+
+  nothing : (laws : List Law) → Kept n table laws → refuses (firstBreach n table laws) ≡ false
+  nothing laws k = ap refuses (kept-passes n table laws k)
+
+  pub first-loop : 2 ≤ n → Loop n table (firstBreach n table (tellingTriples n)) (withFirst n) 2 n []
+  unfolding tellingTriples
+  first-loop h = begins-at n table _ (withFirst n) n [] 2 h (begins n table (withFirst n) n)
+      (λ i a. nothing (withFirst n i) (each-make n table (withMiddle n i) n
+      (λ j _. each-make n table (withLast i j) n (λ k _. not-told i j k (λ b. absurd (omega (arith, b .0)))))))
+
+module _ {n : ℕ} {table : List ℕ} {r : Reply} {i : ℕ} where
+  -- the largest kind is the first of none
+  pub first-ends : Loop n table r (withFirst n) i n [] → n ≤ i + 1 → r ≡ Done 0
+  first-ends l h =
+      by-cases (decLt i n) (λ hi. closes (passes l hi (nothing n table (withFirst n i) (each-make n table (withMiddle n i) n
+      (λ j _. each-make n table (withLast i j) n (λ k hk. not-told n table i j k (λ b. absurd (omega (arith, b .2)))))))) (omega arith) ∙ no-more n table)
+      (λ d. closes l (omega arith) ∙ no-more n table)
+
+module _ {n : ℕ} {table : List ℕ} {r : Reply} {i : ℕ} {more : List Law} where
+  pub middle-loop :
+      Loop n table r (withFirst n) i n more → 2 ≤ n → i < n → Loop n table r (withMiddle n i) 2 n (rest (withFirst n) (i + 1) n ++ more)
+  middle-loop l h hi = begins-at n table r (withMiddle n i) n _ 2 h (opens l (withMiddle n i) n hi refl)
+      (λ j a. nothing n table (withMiddle n i j) (each-make n table (withLast i j) n (λ k _. not-told n table i j k (λ b. absurd (omega (arith, b .1))))))
+
+  module _ {j : ℕ} where
+    pub last-loop :
+        Loop n table r (withMiddle n i) j n more → i < n → j < n → Loop n table r (withLast i j) (i + 1) n (rest (withMiddle n i) (j + 1) n ++ more)
+    last-loop l hi hj = begins-at n table r (withLast i j) n _ (i + 1) (omega arith) (opens l (withLast i j) n hj refl)
+        (λ k a. nothing n table (withLast i j k) (not-told n table i j k (λ b. absurd (omega (arith, b .2)))))
+
+    module _ {k : ℕ} (l : Loop n table r (withLast i j) k n more) (hi : 2 ≤ i) (hj : 2 ≤ j) (h : i < k) (hk : k < n) where
+      one-law : firstBreach n table (withLast i j k) ≡ firstBreach n table (Law.group i j k ∷ [])
+      one-law = ap (λ (t : Bool). firstBreach n table (cond t (Law.group i j k ∷ []) [])) (tells i j k hi hj (omega arith) h)
+
+      pub triple-kept : refuses (lawReply n table (Law.group i j k)) ≡ false → Loop n table r (withLast i j) (k + 1) n more
+      triple-kept e = passes l hk (ap refuses (one-law ∙ first-kept n table (Law.group i j k) [] e ∙ no-more n table))
+
+      pub triple-broken : {cause : Cause} {p : ℕ} → lawReply n table (Law.group i j k) ≡ Refused cause p → r ≡ Refused cause p
+      triple-broken {cause} {p} e =
+          let q : firstBreach n table (withLast i j k) ≡ Refused cause p = one-law ∙ first-broken n table (Law.group i j k) [] e in
+          stops l hk (ap refuses q) ∙ q
