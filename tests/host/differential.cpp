@@ -73,7 +73,7 @@ constexpr size_t calls_to_a_meaning_session = 800; // fewer of both in a short r
 constexpr size_t calls_of_a_long_run = 100000;
 constexpr size_t signs_of_every_text = 6; // and 4 in a short run
 constexpr size_t calls_to_a_term_trip = 500;
-constexpr size_t tables_near_lawful = 200000; // and a tenth of them in a short run
+constexpr size_t broken_tables_near_lawful = 200000; // and a tenth of them in a short run
 
 // Terms: the examples worked by hand, every short text beside the plain version, and texts there and back.
 bool terms_hold(size_t calls_wanted)
@@ -112,10 +112,10 @@ bool terms_hold(size_t calls_wanted)
 
 bool tables_near_lawful_agree(size_t calls_wanted)
 {
-    const size_t tables_wanted = calls_wanted < calls_of_a_long_run ? tables_near_lawful / 10 : tables_near_lawful;
+    const size_t wanted = broken_tables_near_lawful / (calls_wanted < calls_of_a_long_run ? 10 : 1);
     NearLawful::Counts counts;
     size_t differing = 0;
-    for (std::uint64_t round = 0; counts.tables < tables_wanted && differing < most_differences_shown; round++) {
+    for (std::uint64_t round = 0; counts.broken() < wanted && differing < most_differences_shown; round++) {
         watch::now_at("tables near lawful ones, round " + std::to_string(round));
         const std::string problem = NearLawful::failing(library_by_c, round, counts);
         if (!problem.empty()) {

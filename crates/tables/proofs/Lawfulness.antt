@@ -67,6 +67,9 @@ module _ (n : ℕ) (table : List ℕ) where
   kept-passes [] a = no-more n table
   kept-passes (x ∷ xs) a = first-kept n table x xs (a .0) ∙ kept-passes xs (a .1)
 
+  pub nothing : (xs : List Law) → Kept xs → refuses (firstBreach n table xs) ≡ false
+  nothing xs a = ap refuses (kept-passes xs a)
+
   -- a check that refuses nothing is done with third 0
   pub passes-done : (xs : List Law) → refuses (firstBreach n table xs) ≡ false → firstBreach n table xs ≡ Done 0
   passes-done xs e = kept-passes xs (passes-kept xs e)

@@ -1,4 +1,4 @@
 pub mod Scan
 pub mod Lawfulness
 pub mod Triples
-pub mod Telling
+pub mod LookedAt

@@ -1,5 +1,5 @@
 -- Once the laws before them hold, the first triple that breaks its law is one without 0 and 1 whose first is below its last: so the others need
--- not be looked at.
+-- not be looked at. And the reply to a table tells of that triple.
 -- Assumes nothing.
 use mathlib.Core.Path.{_≡_, refl, ap, _∙_, sym}
 use mathlib.Core.Logic.{_↔_, by-cases}
@@ -14,18 +14,18 @@ use Rattle.kinds.specs.Kinds.{meetAt}
 use Rattle.kinds.specs.Sizes.{AllKinds}
 use Rattle.kinds.proofs.Offset.{offset-lt}
 use Rattle.replies.specs.declared.Cause.the-variants.{LawBroken}
-use Rattle.replies.specs.declared.Reply.the-variants.{Done}
+use Rattle.replies.specs.declared.Reply.the-variants.{Done, Refused}
 use Rattle.replies.specs.Replies.{refuses}
 use Rattle.tables.specs.Check.{Law, lawReply, forEach, entries, singles, pairs, triples, firstBreach}
-use Rattle.tables.specs.Triples.{EarlierHold, every, telling, Before, FirstBroken, tellingTriples}
-use Rattle.tables.proofs.Scan.{equal, first-kept, first-of, second-of}
-use Rattle.tables.proofs.Lawfulness.{Kept, passes-kept, each-use, kept-entries, singles-say, pairs-say, triples-say}
+use Rattle.tables.specs.Triples.{EarlierHold, everyTriple, toLookAt, triplesMeant, Before, FirstBroken}
+use Rattle.tables.proofs.Scan.{begins, begins-at, opens, stops, equal, unequal, first-kept, first-broken, first-of, second-of}
+use Rattle.tables.proofs.Lawfulness.{Kept, passes-kept, nothing, each-make, each-use, kept-entries, singles-say, pairs-say, triples-say}
 
 -- what the test says of a triple
-pub tells : (i j k : ℕ) → 1 < i → 1 < j → 1 < k → i < k → telling i j k ≡ true
+pub tells : (i j k : ℕ) → 1 < i → 1 < j → 1 < k → i < k → toLookAt i j k ≡ true
 tells i j k hi hj hk h = rw (lt-ltb 1 i hi, lt-ltb 1 j hj, lt-ltb 1 k hk, lt-ltb i k h)
 
-pub told : (i j k : ℕ) → telling i j k ≡ true → (1 < i) × (1 < j) × (i < k)
+pub told : (i j k : ℕ) → toLookAt i j k ≡ true → (1 < i) × (1 < j) × (i < k)
 told i j k e =
     let p = and-eq-true-iff (ltb 1 i && ltb 1 j && ltb 1 k) (ltb i k) .0 e in
     let q = and-eq-true-iff (ltb 1 i && ltb 1 j) (ltb 1 k) .0 (p .0) in
@@ -66,7 +66,7 @@ module _ {n : ℕ} {meet : ℕ → ℕ → ℕ} (L : Commuting n meet) where
     any-amid h1 = ap (λ (x : ℕ). meet x k) (L .swap hi h1 ∙ L .any hi) ∙ ap (meet i) (sym (L .any hk))
 
   -- a triple that holds 0 or 1 or has its first behind its last breaks its law only if an earlier one does
-  silent : {i j k : ℕ} → i < n → j < n → k < n → telling i j k ≡ false → (k < i → Grouped k j i) → Grouped i j k
+  silent : {i j k : ℕ} → i < n → j < n → k < n → toLookAt i j k ≡ false → (k < i → Grouped k j i) → Grouped i j k
   silent {i} {j} {k} hi hj hk e f =
       by-cases (ℕ-discrete i 0) (λ q. rw q (none-first hi hk hj))
       (λ i0. by-cases (ℕ-discrete i 1) (λ q. rw q (any-first hi hk hj))
@@ -119,56 +119,93 @@ module _ {n : ℕ} {table : List ℕ} (E : EarlierHold n table) where
         swap = λ {i} {j} hi hj. two i j hi hj;
       }
 
-  -- the first broken triple of all is the first of those that tell, and the other way round
-  pub same-first : (i j k : ℕ) → FirstBroken n (meetAt n table) every i j k ↔ FirstBroken n (meetAt n table) telling i j k
+  -- the first broken triple of all is the first of those to look at, and the other way round
+  pub same-first : (i j k : ℕ) → FirstBroken n (meetAt n table) everyTriple i j k ↔ FirstBroken n (meetAt n table) toLookAt i j k
   same-first i j k = (first-tells, first-of-all)
     where
-      first-tells : FirstBroken n (meetAt n table) every i j k → FirstBroken n (meetAt n table) telling i j k
+      first-tells : FirstBroken n (meetAt n table) everyTriple i j k → FirstBroken n (meetAt n table) toLookAt i j k
       first-tells F =
           record {
             kinds = F .kinds;
-            is-meant = by-test (telling i j k) refl;
+            is-meant = by-test (toLookAt i j k) refl;
             is-broken = F .is-broken;
             earlier-keep = λ x y z hx hy hz m b. F .earlier-keep x y z hx hy hz refl b;
           }
         where
-          by-test : (t : Bool) → telling i j k ≡ t → telling i j k ≡ true
+          by-test : (t : Bool) → toLookAt i j k ≡ t → toLookAt i j k ≡ true
           by-test true e = e
           by-test false e =
               let h = F .kinds in
               absurd (F .is-broken (silent commuting (h .0) (h .1) (h .2) e (λ d. F .earlier-keep k j i (h .2) (h .1) (h .0) refl (Before.by-first d))))
 
-      first-of-all : FirstBroken n (meetAt n table) telling i j k → FirstBroken n (meetAt n table) every i j k
+      first-of-all : FirstBroken n (meetAt n table) toLookAt i j k → FirstBroken n (meetAt n table) everyTriple i j k
       first-of-all F =
           record {
             kinds = F .kinds;
             is-meant = refl;
             is-broken = F .is-broken;
-            earlier-keep = λ x y z hx hy hz m b. by-test x y z hx hy hz b (telling x y z) refl;
+            earlier-keep = λ x y z hx hy hz m b. by-test x y z hx hy hz b (toLookAt x y z) refl;
           }
         where
-          by-test : (x y z : ℕ) → x < n → y < n → z < n → Before x y z i j k → (t : Bool) → telling x y z ≡ t → Grouped commuting x y z
+          by-test : (x y z : ℕ) → x < n → y < n → z < n → Before x y z i j k → (t : Bool) → toLookAt x y z ≡ t → Grouped commuting x y z
           by-test x y z hx hy hz b true e = F .earlier-keep x y z hx hy hz e b
-          by-test x y z hx hy hz b false e = silent commuting hx hy hz e (λ d. mirrored d (telling z y x) refl)
+          by-test x y z hx hy hz b false e = silent commuting hx hy hz e (λ d. mirrored d (toLookAt z y x) refl)
             where
-              mirrored : z < x → (t : Bool) → telling z y x ≡ t → Grouped commuting z y x
+              mirrored : z < x → (t : Bool) → toLookAt z y x ≡ t → Grouped commuting z y x
               mirrored d true q = F .earlier-keep z y x hz hy hx q (sooner d b)
               mirrored d false q = silent commuting hz hy hx q (λ o. absurd (omega arith))
 
   -- a triple that is passed over changes no reply, where those with an earlier first kind keep their law
   passed-over :
       (i j k : ℕ) → i < n → j < n → k < n → ((x : ℕ) → x < i → Kept n table (forEach n (λ y. forEach n (λ z. Law.group x y z ∷ [])))) →
-      (t : Bool) → telling i j k ≡ t → firstBreach n table (Law.group i j k ∷ []) ≡ firstBreach n table (cond t (Law.group i j k ∷ []) [])
+      (t : Bool) → toLookAt i j k ≡ t → firstBreach n table (Law.group i j k ∷ []) ≡ firstBreach n table (cond t (Law.group i j k ∷ []) [])
   unfolding lawReply
   passed-over i j k hi hj hk before true e = refl
   passed-over i j k hi hj hk before false e =
       first-kept n table (Law.group i j k) []
       (equal LawBroken (i * n + j) (silent commuting hi hj hk e (λ d. triples-say n table k (before k d) j i hj hi)))
 
-  -- the reply to the first broken triple is that to the first broken one of those that tell
-  pub same-reply : firstBreach n table (triples n) ≡ firstBreach n table (tellingTriples n)
-  unfolding triples tellingTriples
+  -- the reply to the first broken triple is that to the first broken one of those to look at
+  pub same-reply : firstBreach n table (triples n) ≡ firstBreach n table (triplesMeant toLookAt n)
+  unfolding triples triplesMeant
   same-reply =
       each-same n table _ _ n (λ i hi before.
       each-same n table _ _ n (λ j hj _.
-      each-same n table _ _ n (λ k hk _. passed-over i j k hi hj hk before (telling i j k) refl)))
+      each-same n table _ _ n (λ k hk _. passed-over i j k hi hj hk before (toLookAt i j k) refl)))
+
+-- the reply tells of the first broken triple, in the order of `Before`
+module _ (n : ℕ) (table : List ℕ) (meant : ℕ → ℕ → ℕ → Bool) {i j k : ℕ} (F : FirstBroken n (meetAt n table) meant i j k) where
+  abbrev law : ℕ → ℕ → ℕ → List Law
+  law x y z = cond (meant x y z) (Law.group x y z ∷ []) []
+
+  earlier : (x y z : ℕ) → x < n → y < n → z < n → Before x y z i j k → Kept n table (law x y z)
+  unfolding lawReply
+  earlier x y z hx hy hz b = by-test (meant x y z) refl
+    where
+      by-test : (t : Bool) → meant x y z ≡ t → Kept n table (cond t (Law.group x y z ∷ []) [])
+      by-test true e = (equal LawBroken (x * n + y) (F .earlier-keep x y z hx hy hz e b), tt)
+      by-test false e = tt
+
+  broken-here : firstBreach n table (law i j k) ≡ Refused LawBroken (i * n + j)
+  unfolding lawReply
+  broken-here =
+      ap (λ (t : Bool). firstBreach n table (cond t (Law.group i j k ∷ []) [])) (F .is-meant)
+      ∙ first-broken n table (Law.group i j k) [] (unequal LawBroken (i * n + j) (F .is-broken))
+
+  pub first-told : firstBreach n table (triplesMeant meant n) ≡ Refused LawBroken (i * n + j)
+  unfolding triplesMeant
+  first-told =
+      let h = F .kinds in
+      let at-i = begins-at n table _ (λ x. forEach n (λ y. forEach n (law x y))) n [] i (omega arith) (begins n table _ n)
+      (λ x a. nothing n table _ (each-make n table (λ y. forEach n (law x y)) n
+      (λ y hy. each-make n table (law x y) n (λ z hz. earlier x y z (omega arith) hy hz (Before.by-first a))))) in
+      let at-j = begins-at n table _ (λ y. forEach n (law i y)) n _ j (omega arith) (opens at-i _ n (h .0) refl)
+      (λ y a. nothing n table _ (each-make n table (law i y) n (λ z hz. earlier i y z (h .0) (omega arith) hz (Before.by-second refl a)))) in
+      let at-k = begins-at n table _ (law i j) n _ k (omega arith) (opens at-j _ n (h .1) refl)
+      (λ z a. nothing n table _ (earlier i j z (h .0) (h .1) (omega arith) (Before.by-third refl refl a))) in
+      stops at-k (h .2) (ap refuses broken-here) ∙ broken-here
+
+-- all triples are those of the check
+pub all-meant : (n : ℕ) → triplesMeant everyTriple n ≡ triples n
+unfolding triplesMeant triples
+all-meant n = refl

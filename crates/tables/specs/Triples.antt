@@ -1,5 +1,5 @@
--- Which triples tell something once the laws before them hold, and what the first broken one of some triples is. The reply to a table says
--- nothing of this: it goes through all triples. That the two come to the same is proved (`same-first`, `same-reply` in proofs/Triples.antt).
+-- The triples that the search for a broken one looks at, and what the first broken one of some triples is. What a table is answered is stated over
+-- all triples (`tableReply` in Check.antt). That the first broken one is the same either way is proved in proofs/Triples.antt.
 -- Assumes nothing.
 use mathlib.Core.Path.{_≡_}
 use mathlib.Core.Logic.{_≢_}
@@ -17,26 +17,26 @@ pub record EarlierHold (n : ℕ) (table : List ℕ) : Type 0 where
   pub pairs-hold : firstBreach n table (pairs n) ≡ Done 0
 
 -- which triples are meant: all of them, or those "without 0 and 1 whose first is below its last"
-abbrev pub every : ℕ → ℕ → ℕ → Bool
-every i j k = true
+abbrev pub everyTriple : ℕ → ℕ → ℕ → Bool
+everyTriple i j k = true
 
-abbrev pub telling : ℕ → ℕ → ℕ → Bool
-telling i j k = ltb 1 i && ltb 1 j && ltb 1 k && ltb i k
+abbrev pub toLookAt : ℕ → ℕ → ℕ → Bool
+toLookAt i j k = ltb 1 i && ltb 1 j && ltb 1 k && ltb i k
 
--- (x,y,z) comes before (i,j,k): "triples go by i, then j, then k"
+-- the laws of those that are meant, in the order of the check
+unfoldable pub triplesMeant : (ℕ → ℕ → ℕ → Bool) → ℕ → List Law
+triplesMeant meant n = forEach n (λ i. forEach n (λ j. forEach n (λ k. cond (meant i j k) (Law.group i j k ∷ []) [])))
+
+-- (x,y,z) comes before (i,j,k): triples "go by i, then j, then k"
 pub data Before (x y z i j k : ℕ) : Type 0 where
   by-first : x < i → Before x y z i j k
   by-second : x ≡ i → y < j → Before x y z i j k
   by-third : x ≡ i → y ≡ j → z < k → Before x y z i j k
 
--- (i,j,k) is the first of the triples meant that breaks its law
+-- (i,j,k) is the first of those that are meant that breaks its law
 pub record FirstBroken (n : ℕ) (meet : ℕ → ℕ → ℕ) (meant : ℕ → ℕ → ℕ → Bool) (i j k : ℕ) : Type 0 where
   pub kinds : (i < n) × (j < n) × (k < n)
   pub is-meant : meant i j k ≡ true
   pub is-broken : meet (meet i j) k ≢ meet i (meet j k)
   pub earlier-keep :
       (x y z : ℕ) → x < n → y < n → z < n → meant x y z ≡ true → Before x y z i j k → meet (meet x y) z ≡ meet x (meet y z)
-
--- the triples that tell, in the order of the check
-unfoldable pub tellingTriples : ℕ → List Law
-tellingTriples n = forEach n (λ i. forEach n (λ j. forEach n (λ k. cond (telling i j k) (Law.group i j k ∷ []) [])))

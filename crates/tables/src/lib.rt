@@ -8,7 +8,7 @@ ghost use Rattle.replies.specs.Replies.{unless};
 ghost use Rattle.kinds.specs.Kinds.{meetAt};
 ghost use Rattle.kinds.specs.Sizes.{Sized, AllKinds};
 ghost use Rattle.tables.specs.Check.{Law, lawReply, firstBreach, entries, singles, pairs, triples, tableReply};
-ghost use Rattle.tables.specs.Triples.{EarlierHold};
+ghost use Rattle.tables.specs.Triples.{toLookAt, triplesMeant};
 use replies::Cause;
 use replies::Reply;
 
@@ -100,11 +100,12 @@ fn groups(table: &[u8], n: usize, ij: usize, i: usize, j: usize, k: usize) -> bo
     kinds::kind_at(table, n, ij, k) == kinds::kind_at(table, n, i, jk)
 }
 
-// The first triple that is not associative. Where the laws before it hold, a triple with 0 or 1 in it is, and one read backwards says the
-// same: so only those without 0 and 1 whose first is below its last are looked at. No kind is above n - 1, so that it is the first of none.
+// The first triple that breaks its law, of those without 0 and 1 whose first is below its last; none of these begins with n - 1. Where the laws
+// before it hold no other need be looked at: one with 0 or 1 in it keeps its law, so does one whose first is its last, and one read
+// backwards says the same.
 fn first_triple(table: &[u8], n: usize) -> Reply
-    requires { ⌜ Sized n (now table) ⌝ ∗ ⌜ EarlierHold n (now table) ⌝ }
-    ensures { λ r. ⌜ r ≡ firstBreach n (now (table .entry)) (triples n) ⌝ }
+    requires { ⌜ Sized n (now table) ⌝ ∗ ⌜ AllKinds n (now table) ⌝ }
+    ensures { λ r. ⌜ r ≡ firstBreach n (now (table .entry)) (triplesMeant toLookAt n) ⌝ }
 {
     'triples: loop {
         for i in 2..n - 1 {

@@ -1,5 +1,5 @@
--- `tables::first_triple` meets its contract. Only the triples that tell are looked at: at i, j, k, the reply is that to those of i, j from k on, then
--- to those of i after j, then to those after i.
+-- `tables::first_triple` meets its contract. At i, j, k, the reply is that to the triples to look at of i, j from k on, then to those of i after
+-- j, then to those after i.
 -- Assumes nothing.
 use mathlib.Core.Path.{_≡_, sym, ap, _∙_}
 use mathlib.Core.List.{[], _++_}
@@ -8,16 +8,15 @@ use native.Mathlib.Omega.{arith}
 use borrow.Author.Tests.{not-true, not-false}
 use Rattle.replies.specs.Replies.{refuses}
 use Rattle.tables.specs.Check.{firstBreach}
-use Rattle.tables.specs.Triples.{tellingTriples}
+use Rattle.tables.specs.Triples.{toLookAt, triplesMeant}
 use Rattle.tables.proofs.Scan.{Loop, rest, passed, failed, closes, told}
-use Rattle.tables.proofs.Triples.{all-kinds, same-reply}
-use Rattle.tables.proofs.Telling.{withFirst, withMiddle, withLast, first-loop, first-ends, middle-loop, last-loop, triple-kept, triple-broken}
+use Rattle.tables.proofs.LookedAt.{withFirst, withMiddle, withLast, first-loop, first-ends, middle-loop, last-loop, triple-kept, triple-broken}
 use Rattle.tables.proofs.first_triple.Statement.{statement}
 use Rattle.tables.proofs.first_triple.Tie as tie
 
 abbrev Inv-loop3 : tie.InvT-loop3
 Inv-loop3 table n i j i-end ij k₀ k = (i < k)
-    × Loop n table (firstBreach n table (tellingTriples n)) (withLast i j) k n
+    × Loop n table (firstBreach n table (triplesMeant toLookAt n)) (withLast i j) k n
     (rest (withMiddle n i) (j + 1) n ++ (rest (withFirst n) (i + 1) n ++ []))
 
 abbrev μ-loop3 : tie.MeasureT-loop3
@@ -25,13 +24,13 @@ abbrev μ-loop3 : tie.MeasureT-loop3
 
 abbrev Inv-loop2 : tie.InvT-loop2
 Inv-loop2 table n i i-end j₀ j = (2 ≤ j)
-    × Loop n table (firstBreach n table (tellingTriples n)) (withMiddle n i) j n (rest (withFirst n) (i + 1) n ++ [])
+    × Loop n table (firstBreach n table (triplesMeant toLookAt n)) (withMiddle n i) j n (rest (withFirst n) (i + 1) n ++ [])
 
 abbrev μ-loop2 : tie.MeasureT-loop2
 μ-loop2 table n i i-end j₀ j = n - j
 
 abbrev Inv-loop : tie.InvT-loop
-Inv-loop table n i₀ i-end i = (2 ≤ i) × (i-end + 1 ≡ n) × Loop n table (firstBreach n table (tellingTriples n)) (withFirst n) i n []
+Inv-loop table n i₀ i-end i = (2 ≤ i) × (i-end + 1 ≡ n) × Loop n table (firstBreach n table (triplesMeant toLookAt n)) (withFirst n) i n []
 
 abbrev μ-loop : tie.MeasureT-loop
 μ-loop table n i₀ i-end i = i-end - i
@@ -68,7 +67,7 @@ loop2-holds c = let at = c .before .loop .inv in (omega arith, middle-loop (at .
 
 kind-at-requires :
     tie.Need-kind-at-requires Inv-loop3 μ-loop3 Inv-loop2 μ-loop2 Inv-loop μ-loop Inv-triples μ-triples
-kind-at-requires c κs = let p = c .before .before .before .before .before .before .pre in (p .0, (all-kinds (p .1), (omega (arith, c .before .before .before .loop .inv .1), c .loop2-test .taken)))
+kind-at-requires c κs = let p = c .before .before .before .before .before .before .pre in (p .0, (p .1, (omega (arith, c .before .before .before .loop .inv .1), c .loop2-test .taken)))
 
 add-k :
     tie.Need-add-k Inv-loop3 μ-loop3 Inv-loop2 μ-loop2 Inv-loop μ-loop Inv-triples μ-triples
@@ -82,7 +81,7 @@ groups-requires :
     tie.Need-groups-requires Inv-loop3 μ-loop3 Inv-loop2 μ-loop2 Inv-loop μ-loop Inv-triples μ-triples
 groups-requires c κs = let p = c .before .before .before .before .before .before .before .before .before .pre in
     let ij = c .before .before .kind-at .ensures in
-    (p .0, (all-kinds (p .1), ((ij .1, omega (arith, c .before .before .before .before .before .before .loop .inv .1), c .before .before .before .loop2-test .taken, c .loop3-test .taken), ij .0)))
+    (p .0, (p .1, ((ij .1, omega (arith, c .before .before .before .before .before .before .loop .inv .1), c .before .before .before .loop2-test .taken, c .loop3-test .taken), ij .0)))
 
 offset-requires :
     tie.Need-offset-requires Inv-loop3 μ-loop3 Inv-loop2 μ-loop2 Inv-loop μ-loop Inv-triples μ-triples
@@ -132,13 +131,12 @@ returns :
     tie.Need-returns Inv-loop3 μ-loop3 Inv-loop2 μ-loop2 Inv-loop μ-loop Inv-triples μ-triples
 returns c = let at = c .before .before .before .before .loop3 .inv in
     told (c .offset .ensures)
-    (same-reply (c .before .before .before .before .before .before .before .before .before .before .before .before .pre .1)
-    ∙ triple-broken (at .1) (c .before .before .before .before .before .before .before .before .before .loop .inv .0) (c .before .before .before .before .before .before .before .loop2 .inv .0) (at .0) (c .before .before .before .loop3-test .taken)
+    (triple-broken (at .1) (c .before .before .before .before .before .before .before .before .before .loop .inv .0) (c .before .before .before .before .before .before .before .loop2 .inv .0) (at .0) (c .before .before .before .loop3-test .taken)
     (c .before .before .groups .ensures ∙ failed _ _ (not-true (c .before .before .groups .result) (c .before .if1 .taken))))
 
 returns-2 :
     tie.Need-returns-2 Inv-loop3 μ-loop3 Inv-loop2 μ-loop2 Inv-loop μ-loop Inv-triples μ-triples
-returns-2 c = let at = c .before .loop .inv in sym (same-reply (c .before .before .before .before .pre .1) ∙ first-ends (at .2) (omega (arith, at .1)))
+returns-2 c = let at = c .before .loop .inv in sym (first-ends (at .2) (omega (arith, at .1)))
 
 pub first-triple-spec : {M : Type 1} → statement M
 first-triple-spec =

@@ -1,5 +1,5 @@
--- Loops over the triples that tell: they begin at 2, at 2 and behind the first kind, for nothing stands before; and each turn of the innermost
--- has one law.
+-- Loops over the triples to look at: they begin at 2, at 2 and behind the first kind, since none of these comes before; and each turn of the
+-- innermost has one law.
 -- Assumes nothing.
 use mathlib.Core.Path.{_≡_, refl, ap, _∙_}
 use mathlib.Core.Logic.{by-cases}
@@ -13,14 +13,14 @@ use Rattle.replies.specs.declared.Reply.{Reply}
 use Rattle.replies.specs.declared.Reply.the-variants.{Done, Refused}
 use Rattle.replies.specs.Replies.{refuses}
 use Rattle.tables.specs.Check.{Law, lawReply, forEach, firstBreach}
-use Rattle.tables.specs.Triples.{telling, tellingTriples}
+use Rattle.tables.specs.Triples.{toLookAt, triplesMeant}
 use Rattle.tables.proofs.Scan.{Loop, rest, begins, begins-at, opens, passes, stops, closes, first-kept, first-broken, no-more}
-use Rattle.tables.proofs.Lawfulness.{Kept, kept-passes, each-make}
+use Rattle.tables.proofs.Lawfulness.{Kept, nothing, each-make}
 use Rattle.tables.proofs.Triples.{tells, told}
 
--- those of the triples that tell with first i and middle j, last k; with first i and middle j; with first i
+-- the triples to look at with first i, middle j and last k; with first i and middle j; with first i
 abbrev pub withLast : ℕ → ℕ → ℕ → List Law
-withLast i j k = cond (telling i j k) (Law.group i j k ∷ []) []
+withLast i j k = cond (toLookAt i j k) (Law.group i j k ∷ []) []
 
 abbrev pub withMiddle : ℕ → ℕ → ℕ → List Law
 withMiddle n i j = forEach n (withLast i j)
@@ -30,19 +30,16 @@ withFirst n i = forEach n (withMiddle n i)
 
 module _ (n : ℕ) (table : List ℕ) where
   not-told : (i j k : ℕ) → ((1 < i) × (1 < j) × (i < k) → ⊥) → Kept n table (withLast i j k)
-  not-told i j k f = by-test (telling i j k) refl
+  not-told i j k f = by-test (toLookAt i j k) refl
     where
-      by-test : (t : Bool) → telling i j k ≡ t → Kept n table (cond t (Law.group i j k ∷ []) [])
+      by-test : (t : Bool) → toLookAt i j k ≡ t → Kept n table (cond t (Law.group i j k ∷ []) [])
       by-test true e = absurd (f (told i j k e))
       by-test false e = tt
 
-  nothing : (laws : List Law) → Kept n table laws → refuses (firstBreach n table laws) ≡ false
-  nothing laws k = ap refuses (kept-passes n table laws k)
-
-  pub first-loop : 2 ≤ n → Loop n table (firstBreach n table (tellingTriples n)) (withFirst n) 2 n []
-  unfolding tellingTriples
+  pub first-loop : 2 ≤ n → Loop n table (firstBreach n table (triplesMeant toLookAt n)) (withFirst n) 2 n []
+  unfolding triplesMeant
   first-loop h = begins-at n table _ (withFirst n) n [] 2 h (begins n table (withFirst n) n)
-      (λ i a. nothing (withFirst n i) (each-make n table (withMiddle n i) n
+      (λ i a. nothing n table (withFirst n i) (each-make n table (withMiddle n i) n
       (λ j _. each-make n table (withLast i j) n (λ k _. not-told i j k (λ b. absurd (omega (arith, b .0)))))))
 
 module _ {n : ℕ} {table : List ℕ} {r : Reply} {i : ℕ} where
