@@ -79,10 +79,15 @@ fn write(block: Room, size: usize) -> Answer
     answer_to(b'w', 0, 0, [0xEEu8; 5253], size, block, lent_of(block))
 }
 
+fn write_number(x: u64) {
+    io::print_decimal(1, x);
+    io::write_all(1, b" ");
+}
+
 fn write_reply(reply: Reply) {
-    scripts::write_number(replies::number_of(reply) as u64);
-    scripts::write_number(replies::place_of(reply) as u64);
-    scripts::write_number(replies::third_of(reply) as u64);
+    write_number(replies::number_of(reply) as u64);
+    write_number(replies::place_of(reply) as u64);
+    write_number(replies::third_of(reply) as u64);
 }
 
 fn write_same(before: Room, after: Room) {
@@ -116,7 +121,7 @@ fn tell_output(block: Room, size: usize, shown: bool)
     if shown {
         return;
     }
-    scripts::write_letter(b' ');
+    io::write_all(1, b" ");
     io::print_decimal(1, sum as u64);
 }
 
@@ -138,7 +143,9 @@ fn tell_other(letter: u8, block: Room, table: Room, room: Room) {
         b's' => tell_output(block, size, false),
         b'f' => tell_fresh(block, table, room),
         b'h' | b'k' | b'e' => {}
-        _ => scripts::write_letter(b'?'),
+        _ => {
+            io::write_all(1, b"?");
+        }
     }
 }
 
@@ -171,18 +178,33 @@ fn next_table(letter: u8, table: Room, bytes: Bytes) -> Room {
     scripts::next_table(letter, table, bytes)
 }
 
+// The next letter of the script, 0 at its end.
+fn next_letter() -> u8 {
+    let mut letters = [0u8; 1];
+    io::read_full(0, &mut letters);
+    letters[0]
+}
+
 fn main() {
     let mut block = [0u8; 5253];
     let mut table = [0u8; 5253];
+    let mut script = scripts::begun();
     for _ in 0..65536usize {
-        let letter = scripts::next_call();
-        if letter == 0 {
+        let c = next_letter();
+        if c == 0 {
             return;
         }
-        let bytes = scripts::read();
-        let next = next_table(letter, table, bytes);
-        let after = next_block(letter, block, next, bytes);
-        table = next;
-        block = after;
+        if scripts::is_text(script.part, c) {
+            io::write_all(1, &[c]);
+        }
+        let next = scripts::after(script, c);
+        script = next;
+        if script.part == scripts::CALLED {
+            let bytes = script.bytes;
+            let next = next_table(script.letter, table, bytes);
+            let after = next_block(script.letter, block, next, bytes);
+            table = next;
+            block = after;
+        }
     }
 }

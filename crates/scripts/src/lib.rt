@@ -1,11 +1,25 @@
-// Scripts, which the programs of examples read from standard input. A script is text with calls in brackets, as `[t 0004 0101]`: a letter,
-// then bytes in hex. The text is written as it stands, but for a `#` and what follows it up to the end of its line, and a program writes the
-// answer to a call in the place of the call. In a call `fact step count*` stands for `count` facts of four bytes, each byte of a fact
-// differing from that of the fact before by the byte of the step. Where a script is not understood a `?` is written, which is in no stored
-// output.
+// Scripts, which the programs of examples read from standard input, letter by letter. A script is text with calls in brackets, as
+// `[t 0004 0101]`: a letter, then bytes in hex. The text is written as it stands, but for a `#` and what follows it up to the end of its line,
+// and a program writes the answer to a call in the place of the call. In a call `fact step count*` stands for `count` facts of four bytes, each
+// byte of a fact differing from that of the fact before by the byte of the step. Where a script is not understood a `?` is written, which is in
+// no stored output.
 ghost use mathlib.Core.Path.{_≡_};
-ghost use Prim.Native.Nat.{_<_};
+ghost use Prim.Native.Nat.{_-_, _*_, _<_};
 ghost use Rattle.scripts.specs.Rooms.{byteAt, withByte, numberAt, insideOf, putBytes, flatEntry, flatTable, tableAfter, summed, sumOf};
+ghost use Rattle.scripts.specs.Scripts.{noBytes, begunScript, isPlain, isText, textAfter, digitOf, withDigits, repeatedFacts, withRepeats, callAfter, scriptAfter};
+
+// Where in a script one is: in its text, in a comment, before the letter of a call, in its bytes, before the second digit of one, behind the call.
+const TEXT: u8 = 0;
+
+const COMMENT: u8 = 1;
+
+const LETTER: u8 = 2;
+
+const BYTES: u8 = 3;
+
+const SECOND_DIGIT: u8 = 4;
+
+pub const CALLED: u8 = 5;
 
 // Room for a table, an output or the bytes of a call, or for a block with one byte and a number behind it.
 pub type Room = [u8; 5253];
@@ -16,13 +30,16 @@ pub struct Bytes {
     pub size: usize,
 }
 
-pub fn write_letter(c: u8) {
-    io::write_all(1, &[c]);
+// A script as far as it is read: where one is, and of a call its letter, its bytes, and the first digit of the next one.
+pub struct Script {
+    pub part: u8,
+    pub letter: u8,
+    pub digit: u8,
+    pub bytes: Bytes,
 }
 
-pub fn write_number(x: u64) {
-    io::print_decimal(1, x);
-    write_letter(b' ');
+fn write_letter(c: u8) {
+    io::write_all(1, &[c]);
 }
 
 // A size or an offset that lies inside a room.
@@ -122,63 +139,112 @@ pub fn next_table(letter: u8, table: Room, bytes: Bytes) -> Room
     }
 }
 
-// The next letter of the script, 0 at its end.
-fn next_letter() -> u8 {
-    let mut letters = [0u8; 1];
-    io::read_full(0, &mut letters);
-    letters[0]
+fn no_bytes() -> Bytes
+    ensures { λ r. ⌜ r ≡ noBytes ⌝ }
+{
+    Bytes {
+        room: [0u8; 5253],
+        size: 0,
+    }
 }
 
-// Writes a letter of the text, unless it is in a comment or begins one or a call. The state of the text then: `#` in a comment, `[` at a call.
-fn write_text(c: u8, state: u8) -> u8 {
-    if state == b'#' {
+// A script of which nothing is read.
+pub fn begun() -> Script
+    ensures { λ r. ⌜ r ≡ begunScript ⌝ }
+{
+    Script {
+        part: TEXT,
+        letter: 0,
+        digit: 0,
+        bytes: no_bytes(),
+    }
+}
+
+// Whether a letter begins neither a comment nor a call.
+fn is_plain(c: u8) -> bool
+    ensures { λ r. ⌜ r ≡ isPlain c ⌝ }
+{
+    if c == b'#' {
+        return false;
+    }
+    c != b'['
+}
+
+// Whether a letter is one of the text, which is written.
+pub fn is_text(part: u8, c: u8) -> bool
+    ensures { λ r. ⌜ r ≡ isText part c ⌝ }
+{
+    if part == TEXT {
+        return is_plain(c);
+    }
+    if part == CALLED {
+        return is_plain(c);
+    }
+    false
+}
+
+// Where one is behind a letter outside of calls.
+fn text_after(part: u8, c: u8) -> u8
+    ensures { λ r. ⌜ r ≡ textAfter part c ⌝ }
+{
+    if part == COMMENT {
         if c == b'\n' {
-            return c;
+            return TEXT;
         }
-        return state;
+        return COMMENT;
     }
-    match c {
-        b'#' | b'[' => c,
-        _ => {
-            write_letter(c);
-            c
-        }
+    if c == b'#' {
+        return COMMENT;
     }
+    if c == b'[' {
+        return LETTER;
+    }
+    TEXT
 }
 
-// The letter of the next call, 0 where the script ends, with the text before it written.
-pub fn next_call() -> u8 {
-    let mut state = 0;
-    for _ in 0..65536usize {
-        let c = next_letter();
-        if c == 0 {
-            return 0;
-        }
-        state = write_text(c, state);
-        if state == b'[' {
-            return next_letter();
-        }
-    }
+// What stands for a digit that is none.
+fn no_digit() -> u8
+    ensures { λ r. ⌜ r ≡ 0 ⌝ }
+{
+    write_letter(b'?');
     0
 }
 
 // The value of a hex digit.
-fn digit(c: u8) -> usize
-    ensures { λ r. ⌜ r < 16 ⌝ }
+fn digit(c: u8) -> u8
+    ensures { λ r. ⌜ (r ≡ digitOf c) × (r < 16) ⌝ }
 {
-    match c {
-        b'0'..=b'9' => wide(c - b'0'),
-        b'A'..=b'F' => wide(c - b'A' + 10),
-        _ => {
-            write_letter(b'?');
-            0
-        }
+    if c < b'0' {
+        return no_digit();
+    }
+    if c <= b'9' {
+        return c - b'0';
+    }
+    if c < b'A' {
+        return no_digit();
+    }
+    if c <= b'F' {
+        return c - b'A' + 10;
+    }
+    no_digit()
+}
+
+// The bytes with one more, of two digits.
+fn with_digits(bytes: Bytes, first: u8, second: u8) -> Bytes
+    ensures { λ r. ⌜ r ≡ withDigits bytes first second ⌝ }
+{
+    let room = bytes.room;
+    let size = inside(bytes.size);
+    Bytes {
+        room: set(room, size, 16 * wide(first) + wide(second)),
+        size: size + 1,
     }
 }
 
 // So many facts, of which the first stands at a place, with its step behind it.
 fn repeated(room: Room, base: usize, count: usize) -> Room
     requires { ⌜ (base < 5253) × (count < 256) ⌝ }
+    ensures { λ r. ⌜ r ≡ repeatedFacts room base (4 * count - 4) ⌝ }
 {
     let mut next = room;
     for i in 4..4 * count {
@@ -189,41 +255,93 @@ fn repeated(room: Room, base: usize, count: usize) -> Room
     next
 }
 
-// The bytes with what a letter begins.
-fn with(bytes: Bytes, c: u8) -> Bytes {
+// The bytes with the last nine of them, a fact, its step and a number, made so many facts.
+fn with_repeats(bytes: Bytes) -> Bytes
+    ensures { λ r. ⌜ r ≡ withRepeats bytes ⌝ }
+{
     let room = bytes.room;
     let size = inside(bytes.size);
-    match c {
-        b' ' | b'\n' => bytes,
-        b'*' => {
-            let base = inside(std::num::wrapping_sub_usize(size, 9));
-            let count = byte(room, base + 8);
-            Bytes {
-                room: repeated(room, base, count),
-                size: base + 4 * count,
-            }
-        }
-        _ => Bytes {
-            room: set(room, size, digit(c) * 16 + digit(next_letter())),
-            size: size + 1,
-        },
+    if size < 9 {
+        write_letter(b'?');
+        return bytes;
+    }
+    let base = size - 9;
+    let count = byte(room, base + 8);
+    Bytes {
+        room: repeated(room, base, count),
+        size: base + 4 * count,
     }
 }
 
-// The bytes of the call that has begun.
-pub fn read() -> Bytes {
-    let mut bytes = Bytes {
-        room: [0u8; 5253],
-        size: 0,
-    };
-    for _ in 0..65536usize {
-        let c = next_letter();
-        if c == b']' {
-            return bytes;
-        }
-        bytes = with(bytes, c);
+// The script behind a letter among the bytes of a call.
+fn call_after(script: Script, c: u8) -> Script
+    ensures { λ r. ⌜ r ≡ callAfter script c ⌝ }
+{
+    let letter = script.letter;
+    let bytes = script.bytes;
+    if c == b' ' {
+        return script;
     }
-    bytes
+    if c == b'\n' {
+        return script;
+    }
+    if c == b']' {
+        return Script {
+            part: CALLED,
+            letter,
+            digit: 0,
+            bytes,
+        };
+    }
+    if c == b'*' {
+        return Script {
+            part: BYTES,
+            letter,
+            digit: 0,
+            bytes: with_repeats(bytes),
+        };
+    }
+    Script {
+        part: SECOND_DIGIT,
+        letter,
+        digit: digit(c),
+        bytes,
+    }
+}
+
+// The script behind its next letter.
+pub fn after(script: Script, c: u8) -> Script
+    ensures { λ r. ⌜ r ≡ scriptAfter script c ⌝ }
+{
+    let part = script.part;
+    let letter = script.letter;
+    let first = script.digit;
+    let bytes = script.bytes;
+    if part == LETTER {
+        return Script {
+            part: BYTES,
+            letter: c,
+            digit: 0,
+            bytes: no_bytes(),
+        };
+    }
+    if part == BYTES {
+        return call_after(script, c);
+    }
+    if part == SECOND_DIGIT {
+        return Script {
+            part: BYTES,
+            letter,
+            digit: 0,
+            bytes: with_digits(bytes, first, digit(c)),
+        };
+    }
+    Script {
+        part: text_after(part, c),
+        letter,
+        digit: first,
+        bytes,
+    }
 }
 
 fn write_digit(x: usize)

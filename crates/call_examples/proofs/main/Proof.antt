@@ -5,10 +5,10 @@ use Rattle.call_examples.proofs.main.Statement.{statement}
 use Rattle.call_examples.proofs.main.Tie as tie
 
 abbrev Inv-loop : tie.InvT-loop
-Inv-loop block₀ table₀ counter₀ block table counter = counter ≤ 65536
+Inv-loop block₀ table₀ script₀ counter₀ block table script counter = counter ≤ 65536
 
 abbrev μ-loop : tie.MeasureT-loop
-μ-loop block₀ table₀ counter₀ block table counter = 65536 - counter
+μ-loop block₀ table₀ script₀ counter₀ block table script counter = 65536 - counter
 
 pub main-spec : {M : Type 1} → statement M
 main-spec =
@@ -16,9 +16,13 @@ main-spec =
     (tie.spec
     Inv-loop
     μ-loop
+    (λ c κs. search needs)
     (λ c. search needs)
     (λ c κs. search needs)
     (λ c. search needs)
+    (λ c κs. search needs)
+    (λ c. search needs)
+    (λ c κs. search needs)
     (λ c κs. search needs)
     (λ c κs. search needs)
     (λ c κs. search needs)

@@ -5,10 +5,10 @@ use Rattle.table_examples.proofs.main.Statement.{statement}
 use Rattle.table_examples.proofs.main.Tie as tie
 
 abbrev Inv-loop : tie.InvT-loop
-Inv-loop table₀ counter₀ table counter = counter ≤ 65536
+Inv-loop table₀ script₀ counter₀ table script counter = counter ≤ 65536
 
 abbrev μ-loop : tie.MeasureT-loop
-μ-loop table₀ counter₀ table counter = 65536 - counter
+μ-loop table₀ script₀ counter₀ table script counter = 65536 - counter
 
 pub main-spec : {M : Type 1} → statement M
 main-spec =
@@ -16,6 +16,9 @@ main-spec =
     (tie.spec
     Inv-loop
     μ-loop
+    (λ c κs. search needs)
+    (λ c. search needs)
+    (λ c κs. search needs)
     (λ c. search needs)
     (λ c κs. search needs)
     (λ c. search needs)
