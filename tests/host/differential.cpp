@@ -75,27 +75,39 @@ constexpr size_t signs_of_every_text = 6; // and 4 in a short run
 constexpr size_t calls_to_a_term_trip = 500;
 constexpr size_t broken_tables_near_lawful = 200000; // and a tenth of them in a short run
 
+constexpr bool is_short(size_t calls_wanted) { return calls_wanted < calls_of_a_long_run; }
+
+// Examples worked by hand, made by the plain version and by the library through either header.
+template <typename Part> bool all_give(const std::string& examples)
+{
+    watch::now_at(examples);
+    bool good = true;
+    for (const auto& [name, calls] :
+         {std::pair<const char*, const paper::Calls*>{"the plain version", &paper::calls(Fault::none)},
+          {"the library by vornulica.h", &library_by_c},
+          {"the library by vornulica.hpp", &library_by_cpp}}) {
+        const std::string failing = Part::failing(*calls);
+        if (!failing.empty()) {
+            std::printf("of %s %s gives otherwise: %s\n", examples.c_str(), name, failing.c_str());
+            good = false;
+        }
+    }
+    return good;
+}
+
 // Terms: the examples worked by hand, every short text beside the plain version, and texts there and back.
 bool terms_hold(size_t calls_wanted)
 {
-    bool good = true;
+    bool good = all_give<TermExamples>("the examples of terms");
     const auto tell = [&](const std::string& problem) {
         if (!problem.empty())
             std::printf("%s\n", problem.c_str());
         good = good && problem.empty();
     };
-    watch::now_at("the examples of terms");
-    for (const auto& [name, calls] :
-         {std::pair<const char*, const paper::Calls*>{"the plain version", &paper::calls(Fault::none)},
-          {"the library by vornulica.h", &library_by_c},
-          {"the library by vornulica.hpp", &library_by_cpp}}) {
-        const std::string failing = TermExamples::failing(*calls);
-        if (!failing.empty())
-            tell(std::string("examples of terms that ") + name + " gives otherwise: " + failing);
-    }
     watch::now_at("every short text");
+    const size_t signs = is_short(calls_wanted) ? 4 : signs_of_every_text;
     size_t texts = 0;
-    tell(EveryText(library).failing(calls_wanted < calls_of_a_long_run ? 4 : signs_of_every_text, texts));
+    tell(EveryText(library).failing(signs, texts));
     TermTrips::Counts trips;
     std::uint64_t rounds = 0;
     for (; rounds < calls_wanted / calls_to_a_term_trip && good; rounds++) {
@@ -103,16 +115,14 @@ bool terms_hold(size_t calls_wanted)
         tell(TermTrips::failing(library_by_c, rounds, trips));
     }
     std::printf("differential: every text of up to %zu signs, %zu in all; %zu calls of terms there and back, %zu texts "
-                "written, "
-                "%zu places of 20 held against completions\n",
-                calls_wanted < calls_of_a_long_run ? 4 : signs_of_every_text, texts, trips.calls, trips.written,
-                trips.places);
+                "written, %zu places of 20 held against completions\n",
+                signs, texts, trips.calls, trips.written, trips.places);
     return good;
 }
 
 bool tables_near_lawful_agree(size_t calls_wanted)
 {
-    const size_t wanted = broken_tables_near_lawful / (calls_wanted < calls_of_a_long_run ? 10 : 1);
+    const size_t wanted = broken_tables_near_lawful / (is_short(calls_wanted) ? 10 : 1);
     NearLawful::Counts counts;
     size_t differing = 0;
     for (std::uint64_t round = 0; counts.broken() < wanted && differing < most_differences_shown; round++) {
@@ -133,18 +143,7 @@ bool tables_near_lawful_agree(size_t calls_wanted)
 
 bool compare_with_library(size_t calls_wanted)
 {
-    bool good = true;
-    watch::now_at("the examples");
-    for (const auto& [name, calls] :
-         {std::pair<const char*, const paper::Calls*>{"the plain version", &paper::calls(Fault::none)},
-          {"the library by vornulica.h", &library_by_c},
-          {"the library by vornulica.hpp", &library_by_cpp}}) {
-        const std::string failing = Examples::failing(*calls);
-        if (!failing.empty()) {
-            std::printf("examples that %s gives otherwise: %s\n", name, failing.c_str());
-            good = false;
-        }
-    }
+    bool good = all_give<Examples>("the examples");
     watch::now_at("the meaning");
     const std::string off_meaning =
         Meaning::failing(library_by_c, std::min(meaning_sessions, calls_wanted / calls_to_a_meaning_session));
@@ -160,8 +159,7 @@ bool compare_with_library(size_t calls_wanted)
     Side plain(paper::calls(Fault::none));
     Coverage coverage;
     size_t swept_calls = 0;
-    const size_t swept_differing =
-        sweep_differing(tried, plain, calls_wanted < calls_of_a_long_run ? 10 : 1, swept_calls);
+    const size_t swept_differing = sweep_differing(tried, plain, is_short(calls_wanted) ? 10 : 1, swept_calls);
     size_t calls_made = 0, differing = 0;
     std::uint64_t sessions = 0;
     while (calls_made < calls_wanted && differing < most_differences_shown)

@@ -321,31 +321,22 @@ private:
         set_link(tree, 1, 1, 3);
         writes("a tree of four", tree, 0, "@0(1=>@1(1=>@3),2=>@2)");
 
-        Bytes block = tree;
-        set_link(block, 2, 5, 3);
-        is_no_tree("two walks to a joint", block, 0);
-        block = tree;
-        set_link(block, 0, 3, 2);
-        is_no_tree("two links to a joint", block, 0);
-        block = tree;
-        set_link(block, 3, 0, 3);
-        is_no_tree("a loop at an end", block, 0);
-        block = tree;
-        set_link(block, 3, 0, 1);
-        is_no_tree("a loop of two", block, 0);
-        block = tree;
-        set_link(block, 3, 0, 0);
-        is_no_tree("a link to the chosen joint", block, 0);
-        block = tree;
-        set_link(block, 4, 0, 5);
-        is_no_tree("a link that is not reached", block, 0);
-        set_link(block, 4, 0, 0);
-        is_no_tree("a link to the chosen joint from one not reached", block, 0);
-        writes("and from that one", block, 4, "@4(0=>@0(1=>@1(1=>@3),2=>@2))");
-        block = tree;
-        set_link(block, 4, 0, 4);
-        is_no_tree("a loop that is not reached", block, 0);
-        block = house;
+        const auto with_link = [&](size_t joint, size_t link, size_t to) {
+            Bytes block = tree;
+            set_link(block, joint, link, to);
+            return block;
+        };
+        is_no_tree("two walks to a joint", with_link(2, 5, 3), 0);
+        is_no_tree("two links to a joint", with_link(0, 3, 2), 0);
+        is_no_tree("a loop at an end", with_link(3, 0, 3), 0);
+        is_no_tree("a loop of two", with_link(3, 0, 1), 0);
+        is_no_tree("a link to the chosen joint", with_link(3, 0, 0), 0);
+        is_no_tree("a link that is not reached", with_link(4, 0, 5), 0);
+        is_no_tree("a loop that is not reached", with_link(4, 0, 4), 0);
+        is_no_tree("a link to the chosen joint from one not reached", with_link(4, 0, 0), 0);
+        writes("and from that one", with_link(4, 0, 0), 4, "@4(0=>@0(1=>@1(1=>@3),2=>@2))");
+
+        Bytes block = house;
         set_link(block, 0, 15, 0);
         is_no_tree("a loop of the chosen joint", block, 0);
         is_no_tree("a loop elsewhere", block, 1);
