@@ -25,10 +25,6 @@ drop-replicate zero n x = rw (sub-zero n)
 drop-replicate (suc k) zero x = rw (zero-sub (suc k))
 drop-replicate (suc k) (suc n) x = rw (suc-sub-suc n k) (drop-replicate k n x)
 
--- what a line holds is its text
-pub text-held : (text : List ℕ) → take (holding text .size) (holding text .bytes) ≡ text
-text-held text = take-append-seam text (replicate (room - length text) 0)
-
 pub put-empty : (text : List ℕ) → length text ≤ room → put (holding []) text ≡ holding text
 put-empty text h =
     let none : List ℕ = replicate room 0 in

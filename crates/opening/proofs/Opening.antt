@@ -1,7 +1,7 @@
 -- What the reply to opening tells: sizes that do not fit are refused with 1; otherwise it is the reply to the table.
 -- Assumes nothing.
 use mathlib.Core.Path.{_≡_, refl, sym, _∙_, ap}
-use mathlib.Core.Bool.{Bool, true, false, _&&_, cond, false≢true}
+use mathlib.Core.Bool.{Bool, true, false, cond, and-eq-true-iff}
 use mathlib.Core.List.{List}
 use Prim.Native.Nat.{ℕ, _*_, _≤_}
 use native.Mathlib.Omega.{arith}
@@ -19,10 +19,6 @@ use Rattle.runs.specs.Runs.{within}
 use Rattle.blocks.specs.Layout.{blockSize, freshBlock}
 use Rattle.opening.specs.Open.{sizesFit, openReply, openBlock}
 
-both : (a b : Bool) → a && b ≡ true → (a ≡ true) × (b ≡ true)
-both true b e = (refl, e)
-both false b e = absurd (false≢true e)
-
 module _ (n v : ℕ) (table b : List ℕ) where
   pub record Fitting : Type 0 where
     pub sized : Sized n table
@@ -32,11 +28,11 @@ module _ (n v : ℕ) (table b : List ℕ) where
 
   pub fitting : sizesFit n v table b ≡ true → Fitting
   fitting e =
-      let kinds = both (within 2 64 n) _ e in
-      let joints = both (within 1 64 v) _ (kinds .1) in
-      let sizes = both (eqb (length table) (n * n)) _ (joints .1) in
-      let k = both (leb 2 n) (leb n 64) (kinds .0) in
-      let j = both (leb 1 v) (leb v 64) (joints .0) in
+      let kinds = and-eq-true-iff (within 2 64 n) _ .0 e in
+      let joints = and-eq-true-iff (within 1 64 v) _ .0 (kinds .1) in
+      let sizes = and-eq-true-iff (eqb (length table) (n * n)) _ .0 (joints .1) in
+      let k = and-eq-true-iff (leb 2 n) (leb n 64) .0 (kinds .0) in
+      let j = and-eq-true-iff (leb 1 v) (leb v 64) .0 (joints .0) in
       record {
         sized = record { low = leb-true 2 n (k .0); high = leb-true n 64 (k .1); size = eqb-true (length table) (n * n) (sizes .0) };
         v-low = leb-true 1 v (j .0);

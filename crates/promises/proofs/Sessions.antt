@@ -92,17 +92,6 @@ calls-after g (taking {sent = sent} s t cs) = first-taken s sent g t (λ h. call
 calls-after g (asking _ cs) = calls-after g cs
 calls-after g (writing _ cs) = calls-after g cs
 
-calls-then : {a b c : List ℕ} {sent more : List Sent} → Calls a sent b → Calls b more c → Calls a (sent ++ more) c
-calls-then none more = more
-calls-then (taking s t cs) more = taking s t (calls-then cs more)
-calls-then (asking a cs) more = asking a (calls-then cs more)
-calls-then (writing out cs) more = writing out (calls-then cs more)
-
--- a later block of a session is one of the same session
-pub session-later :
-    {n v : ℕ} {table b c : List ℕ} {sent more : List Sent} → Session n v table sent b → Calls b more c → Session n v table (sent ++ more) c
-session-later s more = record { lent = s .lent; opens = s .opens; calls = calls-then (s .calls) more }
-
 -- what opening writes, where it does not refuse: a good block of its n, V and table that has taken nothing
 module _ (n v : ℕ) (table lent : List ℕ) (o : refuses (openReply n v table lent) ≡ false) where
   pub opening-writes : openBlock n v table lent ≡ freshBlock n v table

@@ -22,7 +22,8 @@ use Rattle.terms.specs.Term.Arguments.{one, more}
 use Rattle.terms.specs.Facts.{termFacts}
 use Rattle.term_reading.specs.Range.{rangeReply}
 use Rattle.term_reading.specs.ReadTerm.{mostFacts, termPacket}
-use Rattle.term_reading.proofs.InRange.{AllIn, in-append, tells, facts-in-range}
+use Rattle.replies.proofs.Laws.{each-append}
+use Rattle.term_reading.proofs.InRange.{In, AllIn, tells, facts-in-range}
 use Rattle.term_writing.proofs.LinkTerms.{KindBelow, Ranged, ArgumentsRanged}
 
 module _ (n v : ℕ) where
@@ -43,15 +44,15 @@ module _ (n v : ℕ) where
     term-tokens : (t : Term) → Ranged n v t → AllIn n v (termTokens t)
     term-tokens (bare j s) r = head-tokens j s (r .0) (r .1)
     term-tokens (bracketed j s args) r =
-        in-append n v (headTokens j s ++ sign opening ∷ argumentTokens args) (sign closing ∷ [])
-        (in-append n v (headTokens j s) (sign opening ∷ argumentTokens args) (head-tokens j s (r .0) (r .1)) (refl, argument-tokens args (r .2)))
+        each-append (In n v) (headTokens j s ++ sign opening ∷ argumentTokens args) (sign closing ∷ [])
+        (each-append (In n v) (headTokens j s) (sign opening ∷ argumentTokens args) (head-tokens j s (r .0) (r .1)) (refl, argument-tokens args (r .2)))
         (refl, tt)
 
     argument-tokens : (args : Arguments) → ArgumentsRanged n v args → AllIn n v (argumentTokens args)
-    argument-tokens (one l t) r = in-append n v (linkTokens l) (termTokens t) (link-tokens l (r .0)) (term-tokens t (r .1))
+    argument-tokens (one l t) r = each-append (In n v) (linkTokens l) (termTokens t) (link-tokens l (r .0)) (term-tokens t (r .1))
     argument-tokens (more l t args) r =
-        in-append n v (linkTokens l ++ termTokens t) (sign comma ∷ argumentTokens args)
-        (in-append n v (linkTokens l) (termTokens t) (link-tokens l (r .0)) (term-tokens t (r .1)))
+        each-append (In n v) (linkTokens l ++ termTokens t) (sign comma ∷ argumentTokens args)
+        (each-append (In n v) (linkTokens l) (termTokens t) (link-tokens l (r .0)) (term-tokens t (r .1)))
         (refl, argument-tokens args (r .2))
 
   pub ranged-passes : (t : Term) → Ranged n v t → rangeReply n v 0 (termTokens t) ≡ Done 0

@@ -36,7 +36,7 @@ stops text p h none out r x =
       λ e. rw (reads-exactly r (Refused no-term-cause p) .1 (e .0), e .1) told,
     )
 
--- a text of p bytes with which a term begins, and a byte, or its end, at which the machine dies
+-- a text with whose first p bytes some term begins, and at p a byte, or its end, at which the machine dies
 module _ (text : List ℕ) (p : ℕ) (t : Term) (rest : List ℕ) where
   dies : length text ≤ longestText → p ≤ length text → Fits t 16 → termText t ≡ take p text ++ rest →
       step (run start (take p text)) (here text p) ≡ dead → StopsAt text p

@@ -78,11 +78,25 @@ module _ (a b : Reply) (last : Reply) where
   pub neither : refuses a ≡ false → refuses b ≡ false → firstRefusal (a ∷ b ∷ []) last ≡ last
   neither p q = first-next a (b ∷ []) last p ∙ first-next b [] last q ∙ first-none last
 
--- what holds of every reply of a list and of the last holds of the first refusal
-abbrev pub Each : (Reply → Type 0) → List Reply → Type 0
+-- what holds of each of a list holds of each of its parts, and the other way round
+abbrev pub Each : {A : Type 0} → (A → Type 0) → List A → Type 0
 Each X [] = Unit {0}
-Each X (r ∷ rs) = X r × Each X rs
+Each X (x ∷ xs) = X x × Each X xs
 
+module _ {A : Type 0} (X : A → Type 0) where
+  pub each-append : (xs ys : List A) → Each X xs → Each X ys → Each X (xs ++ ys)
+  each-append [] ys a b = b
+  each-append (x ∷ xs) ys a b = (a .0, each-append xs ys (a .1) b)
+
+  pub each-left : (xs ys : List A) → Each X (xs ++ ys) → Each X xs
+  each-left [] ys a = tt
+  each-left (x ∷ xs) ys a = (a .0, each-left xs ys (a .1))
+
+  pub each-right : (xs ys : List A) → Each X (xs ++ ys) → Each X ys
+  each-right [] ys a = a
+  each-right (x ∷ xs) ys a = each-right xs ys (a .1)
+
+-- what holds of every reply of a list and of the last holds of the first refusal
 pub first-holds : (X : Reply → Type 0) (rs : List Reply) (last : Reply) → Each X rs → X last → X (firstRefusal rs last)
 unfolding firstRefusal
 first-holds X [] last each x = x

@@ -1,7 +1,7 @@
 -- A run of zeros: every place of it is 0, and the other way round.
 -- Assumes nothing.
 use mathlib.Core.Path.{_≡_, refl}
-use mathlib.Core.Bool.{Bool, true, false, _&&_, false≢true}
+use mathlib.Core.Bool.{true, and-eq-true-iff}
 use mathlib.Core.List.{List, [], _∷_}
 use Prim.Native.Nat.{ℕ, zero, suc}
 use lib.Dec.{eqb}
@@ -9,15 +9,11 @@ use lib.ListN.{getD, replicate}
 use borrow.Author.Tests.{eqb-true, eq-eqb}
 use Rattle.runs.specs.Runs.{allZero}
 
-pub both : (a b : Bool) → (a && b) ≡ true → (a ≡ true) × (b ≡ true)
-both true b e = (refl, e)
-both false b e = absurd (false≢true e)
-
 pub zero-at : (xs : List ℕ) → allZero xs ≡ true → (i : ℕ) → getD xs i 0 ≡ 0
 unfolding allZero
 zero-at [] e i = refl
-zero-at (x ∷ xs) e zero = eqb-true x 0 (both (eqb x 0) (allZero xs) e .0)
-zero-at (x ∷ xs) e (suc i) = zero-at xs (both (eqb x 0) (allZero xs) e .1) i
+zero-at (x ∷ xs) e zero = eqb-true x 0 (and-eq-true-iff (eqb x 0) (allZero xs) .0 e .0)
+zero-at (x ∷ xs) e (suc i) = zero-at xs (and-eq-true-iff (eqb x 0) (allZero xs) .0 e .1) i
 
 pub all-zero : (xs : List ℕ) → ((i : ℕ) → getD xs i 0 ≡ 0) → allZero xs ≡ true
 unfolding allZero

@@ -1,6 +1,5 @@
--- How a script is read, letter by letter. Only the programs of examples rest on this. A letter is its number: the end of a line 10, a blank 32, `#` 35,
--- `*` 42, `0` 48, `A` 65, `[` 91, `]` 93. Where one is: 0 in the text, 1 in a comment, 2 before the letter of a call, 3 in its bytes, 4 before the
--- second digit of one, 5 behind the call.
+-- How a script is read, letter by letter: where one is in it, what is written of its text, and the bytes of a call. Only the programs of examples
+-- rest on this.
 -- Assumes nothing.
 use mathlib.Core.Bool.{Bool, cond, not, _&&_, _||_}
 use mathlib.Core.List.{List}
@@ -12,26 +11,71 @@ use Rattle.scripts.specs.Rooms.{byteAt, withByte, insideOf}
 use Rattle.scripts.specs.declared.Bytes.{Bytes}
 use Rattle.scripts.specs.declared.Script.{Script}
 
+-- where in a script one is: the second digit is that of a byte
+abbrev pub inText : ℕ
+inText = 0
+
+abbrev pub inComment : ℕ
+inComment = 1
+
+abbrev pub atLetter : ℕ
+atLetter = 2
+
+abbrev pub inBytes : ℕ
+inBytes = 3
+
+abbrev pub atSecondDigit : ℕ
+atSecondDigit = 4
+
+abbrev pub called : ℕ
+called = 5
+
+-- the signs of a script, and the first digit and the first letter of hex numbers
+abbrev pub lineEnd : ℕ
+lineEnd = 10
+
+abbrev pub blank : ℕ
+blank = 32
+
+abbrev pub hash : ℕ
+hash = 35
+
+abbrev pub star : ℕ
+star = 42
+
+abbrev pub opening : ℕ
+opening = 91
+
+abbrev pub closing : ℕ
+closing = 93
+
+abbrev pub zeroDigit : ℕ
+zeroDigit = 48
+
+abbrev pub letterA : ℕ
+letterA = 65
+
 abbrev pub noBytes : Bytes
 noBytes = record { room = replicate 5253 0; size = 0 }
 
 abbrev pub begunScript : Script
-begunScript = record { part = 0; letter = 0; digit = 0; bytes = noBytes }
+begunScript = record { part = inText; letter = 0; digit = 0; bytes = noBytes }
 
 -- a letter that begins neither a comment nor a call
 abbrev pub isPlain : ℕ → Bool
-isPlain c = not (eqb c 35) && not (eqb c 91)
+isPlain c = not (eqb c hash) && not (eqb c opening)
 
 -- what is written as it stands: such a letter outside of comments and calls
 abbrev pub isText : ℕ → ℕ → Bool
-isText part c = (eqb part 0 || eqb part 5) && isPlain c
+isText part c = (eqb part inText || eqb part called) && isPlain c
 
--- a comment goes up to the end of its line
+-- where one is behind a letter outside of calls
 abbrev pub textAfter : ℕ → ℕ → ℕ
-textAfter part c = cond (eqb part 1) (cond (eqb c 10) 0 1) (cond (eqb c 35) 1 (cond (eqb c 91) 2 0))
+textAfter part c =
+    cond (eqb part inComment) (cond (eqb c lineEnd) inText inComment) (cond (eqb c hash) inComment (cond (eqb c opening) atLetter inText))
 
 abbrev pub digitOf : ℕ → ℕ
-digitOf c = cond (within 48 57 c) (c - 48) (cond (within 65 70 c) (c - 65 + 10) 0)
+digitOf c = cond (within zeroDigit 57 c) (c - zeroDigit) (cond (within letterA 70 c) (c - letterA + 10) 0)
 
 abbrev pub withDigits : Bytes → ℕ → ℕ → Bytes
 withDigits bytes first second =
@@ -54,14 +98,14 @@ withRepeats bytes =
 
 abbrev pub callAfter : Script → ℕ → Script
 callAfter script c =
-    cond (eqb c 32 || eqb c 10) script
-    (cond (eqb c 93) (record { part = 5; letter = script .letter; digit = 0; bytes = script .bytes })
-    (cond (eqb c 42) (record { part = 3; letter = script .letter; digit = 0; bytes = withRepeats (script .bytes) })
-    (record { part = 4; letter = script .letter; digit = digitOf c; bytes = script .bytes })))
+    cond (eqb c blank || eqb c lineEnd) script
+    (cond (eqb c closing) (record { part = called; letter = script .letter; digit = 0; bytes = script .bytes })
+    (cond (eqb c star) (record { part = inBytes; letter = script .letter; digit = 0; bytes = withRepeats (script .bytes) })
+    (record { part = atSecondDigit; letter = script .letter; digit = digitOf c; bytes = script .bytes })))
 
 abbrev pub scriptAfter : Script → ℕ → Script
 scriptAfter script c =
-    cond (eqb (script .part) 2) (record { part = 3; letter = c; digit = 0; bytes = noBytes })
-    (cond (eqb (script .part) 3) (callAfter script c)
-    (cond (eqb (script .part) 4) (record { part = 3; letter = script .letter; digit = 0; bytes = withDigits (script .bytes) (script .digit) (digitOf c) })
+    cond (eqb (script .part) atLetter) (record { part = inBytes; letter = c; digit = 0; bytes = noBytes })
+    (cond (eqb (script .part) inBytes) (callAfter script c)
+    (cond (eqb (script .part) atSecondDigit) (record { part = inBytes; letter = script .letter; digit = 0; bytes = withDigits (script .bytes) (script .digit) (digitOf c) })
     (record { part = textAfter (script .part) c; letter = script .letter; digit = script .digit; bytes = script .bytes })))

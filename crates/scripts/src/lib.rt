@@ -42,7 +42,7 @@ fn write_letter(c: u8) {
     io::write_all(1, &[c]);
 }
 
-// A size or an offset that lies inside a room.
+// A size or an offset that lies inside a room; 0 for one that does not, and a `?` is written.
 pub fn inside(size: usize) -> usize
     ensures { λ r. ⌜ (r ≡ insideOf size) × (r < 5253) ⌝ }
 {

@@ -2,7 +2,7 @@
 -- Assumes nothing.
 use mathlib.Core.Path.{_≡_, refl, ap, _∙_, sym}
 use mathlib.Core.Logic.{_↔_, by-cases}
-use mathlib.Core.Bool.{true, false, false≢true}
+use mathlib.Core.Bool.{Bool, true, false, cond, false≢true}
 use mathlib.Core.List.{List, [], _∷_, _++_}
 use Prim.Native.Nat.{ℕ, zero, suc, _+_, _*_, _/_, _%_, _<_}
 use native.Mathlib.Omega.{arith}
@@ -18,40 +18,35 @@ use Rattle.replies.specs.declared.Cause.{Cause}
 use Rattle.replies.specs.declared.Reply.{Reply}
 use Rattle.replies.specs.declared.Reply.the-variants.{Done, Refused}
 use Rattle.replies.specs.Replies.{refuses}
-use Rattle.replies.proofs.Laws.{first-passed, unless-passed}
+use Rattle.replies.proofs.Laws.{first-passed, unless-passed, Each, each-append, each-left, each-right}
 use Rattle.tables.specs.Check.{Law, lawReply, forEach, entries, singles, pairs, triples, inOrder, firstBreach, tableReply}
 use Rattle.kinds.specs.Sizes.{AllKinds}
 use Rattle.tables.proofs.Scan.{passed, equal, same, no-more, first-kept, first-broken}
 
 module _ (n : ℕ) (table : List ℕ) where
   -- the table keeps every law of the list: none has a refusal for its reply
+  abbrev Keeps : Law → Type 0
+  Keeps law = refuses (lawReply n table law) ≡ false
+
   abbrev pub Kept : List Law → Type 0
-  Kept [] = Unit {0}
-  Kept (law ∷ more) = (refuses (lawReply n table law) ≡ false) × Kept more
+  Kept laws = Each Keeps laws
 
-  kept-append : (xs ys : List Law) → Kept xs → Kept ys → Kept (xs ++ ys)
-  kept-append [] ys a b = b
-  kept-append (x ∷ xs) ys a b = (a .0, kept-append xs ys (a .1) b)
-
-  kept-left : (xs ys : List Law) → Kept (xs ++ ys) → Kept xs
-  kept-left [] ys a = tt
-  kept-left (x ∷ xs) ys a = (a .0, kept-left xs ys (a .1))
-
-  kept-right : (xs ys : List Law) → Kept (xs ++ ys) → Kept ys
-  kept-right [] ys a = a
-  kept-right (x ∷ xs) ys a = kept-right xs ys (a .1)
+  -- a law that a test may leave out
+  pub kept-if : (law : Law) (t : Bool) → (t ≡ true → refuses (lawReply n table law) ≡ false) → Kept (cond t (law ∷ []) [])
+  kept-if law true f = (f refl, tt)
+  kept-if law false f = tt
 
   pub each-make : (f : ℕ → List Law) (m : ℕ) → ((k : ℕ) → k < m → Kept (f k)) → Kept (forEach m f)
   unfolding forEach
   each-make f zero h = tt
-  each-make f (suc m) h = kept-append (forEach m f) (f m) (each-make f m (λ k a. h k (omega arith))) (h m (omega arith))
+  each-make f (suc m) h = each-append Keeps (forEach m f) (f m) (each-make f m (λ k a. h k (omega arith))) (h m (omega arith))
 
   pub each-use : (f : ℕ → List Law) (m : ℕ) → Kept (forEach m f) → (k : ℕ) → k < m → Kept (f k)
   unfolding forEach
   each-use f zero a k h = absurd (omega arith)
   each-use f (suc m) a k h =
-      by-cases (ℕ-discrete k m) (λ e. rw e (kept-right (forEach m f) (f m) a))
-      (λ d. each-use f m (kept-left (forEach m f) (f m) a) k (omega arith))
+      by-cases (ℕ-discrete k m) (λ e. rw e (each-right Keeps (forEach m f) (f m) a))
+      (λ d. each-use f m (each-left Keeps (forEach m f) (f m) a) k (omega arith))
 
   -- where nothing is refused every law is kept, and the other way round
   first-passes : (law : Law) (more : List Law) → refuses (firstBreach n table (law ∷ more)) ≡ false →
@@ -63,7 +58,7 @@ module _ (n : ℕ) (table : List ℕ) where
   passes-kept [] e = tt
   passes-kept (x ∷ xs) e = let q = first-passes x xs e in (q .0, passes-kept xs (q .1))
 
-  pub kept-passes : (xs : List Law) → Kept xs → firstBreach n table xs ≡ Done 0
+  kept-passes : (xs : List Law) → Kept xs → firstBreach n table xs ≡ Done 0
   kept-passes [] a = no-more n table
   kept-passes (x ∷ xs) a = first-kept n table x xs (a .0) ∙ kept-passes xs (a .1)
 
@@ -102,16 +97,16 @@ module _ (n : ℕ) (table : List ℕ) where
   kept-lawful : Kept (inOrder n) → Lawful n (meetAt n table)
   unfolding triples
   kept-lawful a =
-      let b = kept-right (entries n) (singles n ++ (pairs n ++ triples n)) a in
-      let d = kept-right (singles n) (pairs n ++ triples n) b in
-      let one = singles-say (kept-left (singles n) (pairs n ++ triples n) b) in
-      let three = each-use (λ i. forEach n (λ j. forEach n (λ k. Law.group i j k ∷ []))) n (kept-right (pairs n) (triples n) d) in
+      let b = each-right Keeps (entries n) (singles n ++ (pairs n ++ triples n)) a in
+      let d = each-right Keeps (singles n) (pairs n ++ triples n) b in
+      let one = singles-say (each-left Keeps (singles n) (pairs n ++ triples n) b) in
+      let three = each-use (λ i. forEach n (λ j. forEach n (λ k. Law.group i j k ∷ []))) n (each-right Keeps (pairs n) (triples n) d) in
       record {
-        closed = λ i j hi hj. kept-entries .0 (kept-left (entries n) (singles n ++ (pairs n ++ triples n)) a) (i * n + j) (offset-lt hi hj);
+        closed = λ i j hi hj. kept-entries .0 (each-left Keeps (entries n) (singles n ++ (pairs n ++ triples n)) a) (i * n + j) (offset-lt hi hj);
         self = λ i hi. one i hi .self;
         none = λ i hi. one i hi .none;
         any = λ i hi. one i hi .any;
-        swap = pairs-say (kept-left (pairs n) (triples n) d);
+        swap = pairs-say (each-left Keeps (pairs n) (triples n) d);
         group = λ i j k hi hj hk. triples-say i (three i hi) j k hj hk;
       }
 
@@ -134,13 +129,13 @@ module _ (n : ℕ) (table : List ℕ) where
       (λ j hj. each-make (λ k. Law.group i j k ∷ []) n (λ k hk. (equal _ _ (group i j k hi hj hk), tt))))
 
   several-kept : Commutes n (meetAt n table) → Associates n (meetAt n table) → Kept (pairs n ++ triples n)
-  several-kept swap group = kept-append (pairs n) (triples n) (pairs-kept swap) (triples-kept group)
+  several-kept swap group = each-append Keeps (pairs n) (triples n) (pairs-kept swap) (triples-kept group)
 
   lawful-kept : 0 < n → Lawful n (meetAt n table) → Kept (inOrder n)
   unfolding singles lawReply
   lawful-kept pos L =
-      kept-append (entries n) (singles n ++ (pairs n ++ triples n)) (kept-entries .1 (lawful-closed pos L))
-      (kept-append (singles n) (pairs n ++ triples n)
+      each-append Keeps (entries n) (singles n ++ (pairs n ++ triples n)) (kept-entries .1 (lawful-closed pos L))
+      (each-append Keeps (singles n) (pairs n ++ triples n)
       (each-make (λ i. Law.self i ∷ Law.none i ∷ Law.any i ∷ []) n
       (λ i hi. (equal _ _ (L .self i hi), (equal _ _ (L .none i hi), (equal _ _ (L .any i hi), tt)))))
       (several-kept (L .swap) (L .group)))

@@ -3,19 +3,17 @@
 -- Assumes nothing.
 use mathlib.Core.Path.{_≡_, refl, ap, _∙_}
 use mathlib.Core.Logic.{by-cases}
-use mathlib.Core.Bool.{Bool, true, false, cond}
+use mathlib.Core.Bool.{Bool, cond}
 use mathlib.Core.List.{List, [], _∷_, _++_}
 use Prim.Native.Nat.{ℕ, _+_, _≤_, _<_}
 use native.Mathlib.Omega.{arith}
 use native.Mathlib.Decide.{decLt}
-use Rattle.replies.specs.declared.Cause.{Cause}
 use Rattle.replies.specs.declared.Reply.{Reply}
-use Rattle.replies.specs.declared.Reply.the-variants.{Done, Refused}
-use Rattle.replies.specs.Replies.{refuses}
-use Rattle.tables.specs.Check.{Law, lawReply, forEach, firstBreach}
+use Rattle.replies.specs.declared.Reply.the-variants.{Done}
+use Rattle.tables.specs.Check.{Law, forEach, firstBreach}
 use Rattle.tables.specs.Triples.{toLookAt, triplesMeant}
-use Rattle.tables.proofs.Scan.{Loop, rest, begins, begins-at, opens, passes, stops, closes, first-kept, first-broken, no-more}
-use Rattle.tables.proofs.Lawfulness.{Kept, nothing, each-make}
+use Rattle.tables.proofs.Scan.{Loop, rest, begins, begins-at, opens, passes, closes, no-more}
+use Rattle.tables.proofs.Lawfulness.{Kept, nothing, kept-if, each-make}
 use Rattle.tables.proofs.Triples.{tells, told}
 
 -- the triples to look at with first i, middle j and last k; with first i and middle j; with first i
@@ -30,11 +28,7 @@ withFirst n i = forEach n (withMiddle n i)
 
 module _ (n : ℕ) (table : List ℕ) where
   not-told : (i j k : ℕ) → ((1 < i) × (1 < j) × (i < k) → ⊥) → Kept n table (withLast i j k)
-  not-told i j k f = by-test (toLookAt i j k) refl
-    where
-      by-test : (t : Bool) → toLookAt i j k ≡ t → Kept n table (cond t (Law.group i j k ∷ []) [])
-      by-test true e = absurd (f (told i j k e))
-      by-test false e = tt
+  not-told i j k f = kept-if n table (Law.group i j k) (toLookAt i j k) (λ e. absurd (f (told i j k e)))
 
   pub first-loop : 2 ≤ n → Loop n table (firstBreach n table (triplesMeant toLookAt n)) (withFirst n) 2 n []
   unfolding triplesMeant
@@ -62,14 +56,6 @@ module _ {n : ℕ} {table : List ℕ} {r : Reply} {i : ℕ} {more : List Law} wh
     last-loop l hi hj = begins-at n table r (withLast i j) n _ (i + 1) (omega arith) (opens l (withLast i j) n hj refl)
         (λ k a. nothing n table (withLast i j k) (not-told n table i j k (λ b. absurd (omega (arith, b .2)))))
 
-    module _ {k : ℕ} (l : Loop n table r (withLast i j) k n more) (hi : 2 ≤ i) (hj : 2 ≤ j) (h : i < k) (hk : k < n) where
-      one-law : firstBreach n table (withLast i j k) ≡ firstBreach n table (Law.group i j k ∷ [])
-      one-law = ap (λ (t : Bool). firstBreach n table (cond t (Law.group i j k ∷ []) [])) (tells i j k hi hj (omega arith) h)
-
-      pub triple-kept : refuses (lawReply n table (Law.group i j k)) ≡ false → Loop n table r (withLast i j) (k + 1) n more
-      triple-kept e = passes l hk (ap refuses (one-law ∙ first-kept n table (Law.group i j k) [] e ∙ no-more n table))
-
-      pub triple-broken : {cause : Cause} {p : ℕ} → lawReply n table (Law.group i j k) ≡ Refused cause p → r ≡ Refused cause p
-      triple-broken {cause} {p} e =
-          let q : firstBreach n table (withLast i j k) ≡ Refused cause p = one-law ∙ first-broken n table (Law.group i j k) [] e in
-          stops l hk (ap refuses q) ∙ q
+-- each turn of the innermost loop is one law
+pub one-law : {i j k : ℕ} → 2 ≤ i → 2 ≤ j → i < k → withLast i j k ≡ Law.group i j k ∷ []
+one-law {i} {j} {k} hi hj h = ap (λ (t : Bool). cond t (Law.group i j k ∷ []) []) (tells i j k hi hj (omega arith) h)

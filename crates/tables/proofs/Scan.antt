@@ -135,12 +135,14 @@ begins-at n table r f m more (suc t) h l e =
     rw add-one at (passes (begins-at n table r f m more t (omega arith) l (λ x a. e x (omega arith))) (omega arith) (e t (omega arith)))
 
 -- a loop whose turn is one law
-module _ {n : ℕ} {table : List ℕ} {r : Reply} {g : ℕ → Law} {i m : ℕ} {more : List Law} (l : Loop n table r (λ k. g k ∷ []) i m more) (h : i < m) where
-  pub kept : refuses (lawReply n table (g i)) ≡ false → Loop n table r (λ k. g k ∷ []) (i + 1) m more
-  kept e = passes l h (ap refuses (first-kept n table (g i) [] e ∙ no-more n table))
+module _
+    {n : ℕ} {table : List ℕ} {r : Reply} {f : ℕ → List Law} {i m : ℕ} {more : List Law} (l : Loop n table r f i m more) (h : i < m) {law : Law}
+    (one : f i ≡ law ∷ []) where
+  pub kept : refuses (lawReply n table law) ≡ false → Loop n table r f (i + 1) m more
+  kept e = passes l h (ap refuses (ap (firstBreach n table) one ∙ first-kept n table law [] e ∙ no-more n table))
 
-  pub broken : {cause : Cause} {p : ℕ} → lawReply n table (g i) ≡ Refused cause p → r ≡ Refused cause p
-  broken {cause} {p} e = let q : firstBreach n table (g i ∷ []) ≡ Refused cause p = first-broken n table (g i) [] e in
+  pub broken : {cause : Cause} {p : ℕ} → lawReply n table law ≡ Refused cause p → r ≡ Refused cause p
+  broken {cause} {p} e = let q : firstBreach n table (f i) ≡ Refused cause p = ap (firstBreach n table) one ∙ first-broken n table law [] e in
       stops l h (ap refuses q) ∙ q
 
 -- a breach found at the place that the law names

@@ -19,7 +19,7 @@ use Rattle.replies.specs.Replies.{refuses}
 use Rattle.tables.specs.Check.{Law, lawReply, forEach, entries, singles, pairs, triples, firstBreach}
 use Rattle.tables.specs.Triples.{EarlierHold, everyTriple, toLookAt, triplesMeant, Before, FirstBroken}
 use Rattle.tables.proofs.Scan.{begins, begins-at, opens, stops, equal, unequal, first-kept, first-broken, first-of, second-of}
-use Rattle.tables.proofs.Lawfulness.{Kept, passes-kept, nothing, each-make, each-use, kept-entries, singles-say, pairs-say, triples-say}
+use Rattle.tables.proofs.Lawfulness.{Kept, passes-kept, nothing, kept-if, each-make, each-use, kept-entries, singles-say, pairs-say, triples-say}
 
 -- what the test says of a triple
 pub tells : (i j k : ℕ) → 1 < i → 1 < j → 1 < k → i < k → toLookAt i j k ≡ true
@@ -65,7 +65,7 @@ module _ {n : ℕ} {meet : ℕ → ℕ → ℕ} (L : Commuting n meet) where
     any-amid : 1 < n → Grouped i 1 k
     any-amid h1 = ap (λ (x : ℕ). meet x k) (L .swap hi h1 ∙ L .any hi) ∙ ap (meet i) (sym (L .any hk))
 
-  -- a triple that holds 0 or 1 or has its first behind its last breaks its law only if an earlier one does
+  -- a triple that holds 0 or 1, or whose first is not below its last, breaks its law only if an earlier one does
   silent : {i j k : ℕ} → i < n → j < n → k < n → toLookAt i j k ≡ false → (k < i → Grouped k j i) → Grouped i j k
   silent {i} {j} {k} hi hj hk e f =
       by-cases (ℕ-discrete i 0) (λ q. rw q (none-first hi hk hj))
@@ -105,7 +105,7 @@ entries-kinds n table e = kept-entries n table .0 (passes-kept n table (entries 
 
 -- the laws before the triples, read off the check
 module _ {n : ℕ} {table : List ℕ} (E : EarlierHold n table) where
-  pub all-kinds : AllKinds n table
+  all-kinds : AllKinds n table
   all-kinds = entries-kinds n table (E .entries-hold)
 
   commuting : Commuting n (meetAt n table)
@@ -180,11 +180,8 @@ module _ (n : ℕ) (table : List ℕ) (meant : ℕ → ℕ → ℕ → Bool) {i 
 
   earlier : (x y z : ℕ) → x < n → y < n → z < n → Before x y z i j k → Kept n table (law x y z)
   unfolding lawReply
-  earlier x y z hx hy hz b = by-test (meant x y z) refl
-    where
-      by-test : (t : Bool) → meant x y z ≡ t → Kept n table (cond t (Law.group x y z ∷ []) [])
-      by-test true e = (equal LawBroken (x * n + y) (F .earlier-keep x y z hx hy hz e b), tt)
-      by-test false e = tt
+  earlier x y z hx hy hz b =
+      kept-if n table (Law.group x y z) (meant x y z) (λ e. equal LawBroken (x * n + y) (F .earlier-keep x y z hx hy hz e b))
 
   broken-here : firstBreach n table (law i j k) ≡ Refused LawBroken (i * n + j)
   unfolding lawReply

@@ -72,7 +72,7 @@ pub byte-is-no-end : (text : List ℕ) (p : ℕ) → p < length text → getD te
 byte-is-no-end text p inside small e = omega (arith, small, stands text p inside, e)
 
 -- the facts of a whole text, in an array behind six bytes
-pub holding : {text : List ℕ} {n v : ℕ} {s : List ℕ} {last : Front} {t : List ℕ} (w : WholeRead text n v s last t) (packet : List ℕ) →
+holding : {text : List ℕ} {n v : ℕ} {s : List ℕ} {last : Front} {t : List ℕ} (w : WholeRead text n v s last t) (packet : List ℕ) →
     length s ≡ factsRoom → t ≡ drop 6 packet → Holding (w .t) (last .facts) packet
 holding {last = last} w packet room e =
     record {

@@ -22,6 +22,7 @@ use Rattle.writing.specs.Putting.{formBytes}
 use Rattle.terms.specs.Term.{Written, Term, Arguments, Token, opening, closing, comma, spell, termTokens, argumentTokens, headTokens, kindTokens, linkTokens}
 use Rattle.terms.specs.Term.Token.{sign}
 use Rattle.terms.specs.Term.Written.{unwritten, written}
+use Rattle.replies.proofs.Laws.{Each, each-left, each-right}
 use Rattle.terms.specs.Term.Term.{bare, bracketed}
 use Rattle.terms.specs.Term.Arguments.{one, more}
 use Rattle.terms.specs.Facts.{jointOf, kindFacts, termFacts, argumentFacts}
@@ -30,21 +31,11 @@ use Rattle.term_reading.specs.Reading.{low, lowBytes}
 
 module _ (n v : ℕ) where
   -- every number among the tokens is in range
+  abbrev pub In : Token → Type 0
+  In k = inRange n v k ≡ true
+
   abbrev pub AllIn : List Token → Type 0
-  AllIn [] = Unit {0}
-  AllIn (k ∷ ks) = (inRange n v k ≡ true) × AllIn ks
-
-  pub in-append : (x y : List Token) → AllIn x → AllIn y → AllIn (x ++ y)
-  in-append [] y a b = b
-  in-append (k ∷ x) y a b = (a .0, in-append x y (a .1) b)
-
-  in-left : (x y : List Token) → AllIn (x ++ y) → AllIn x
-  in-left [] y a = tt
-  in-left (k ∷ x) y a = (a .0, in-left x y (a .1))
-
-  in-right : (x y : List Token) → AllIn (x ++ y) → AllIn y
-  in-right [] y a = a
-  in-right (k ∷ x) y a = in-right x y (a .1)
+  AllIn ks = Each In ks
 
   -- which is what the reply tells
   told : (offset : ℕ) (ks : List Token) → refuses (rangeReply n v offset ks) ≡ false → AllIn ks
@@ -86,20 +77,20 @@ module _ (n v : ℕ) where
     term-facts : (t : Term) → AllIn (termTokens t) → (jointOf t < v) × AllInRange n v (termFacts t)
     term-facts (bare j s) a = (ltb-true j v (a .1 .0), kind-facts j s (ltb-true j v (a .1 .0)) (a .1 .1))
     term-facts (bracketed j s args) a =
-        let front = in-left (headTokens j s ++ sign opening ∷ argumentTokens args) (sign closing ∷ []) a in
-        let head = in-left (headTokens j s) (sign opening ∷ argumentTokens args) front in
+        let front = each-left In (headTokens j s ++ sign opening ∷ argumentTokens args) (sign closing ∷ []) a in
+        let head = each-left In (headTokens j s) (sign opening ∷ argumentTokens args) front in
         let h : j < v = ltb-true j v (head .1 .0) in
-        let inner = in-right (headTokens j s) (sign opening ∷ argumentTokens args) front in
+        let inner = each-right In (headTokens j s) (sign opening ∷ argumentTokens args) front in
         (h, in-range-append n v (kindFacts j s) (argumentFacts args j) (kind-facts j s h (head .1 .1)) (argument-facts args j h (inner .1)))
 
     argument-facts : (args : Arguments) (j : ℕ) → j < v → AllIn (argumentTokens args) → AllInRange n v (argumentFacts args j)
     argument-facts (one l t) j h a =
-        let inner = term-facts t (in-right (linkTokens l) (termTokens t) a) in
+        let inner = term-facts t (each-right In (linkTokens l) (termTokens t) a) in
         ((h, ltb-true l 16 (a .0), inner .0), inner .1)
     argument-facts (more l t args) j h a =
-        let first = in-left (linkTokens l ++ termTokens t) (sign comma ∷ argumentTokens args) a in
-        let others = in-right (linkTokens l ++ termTokens t) (sign comma ∷ argumentTokens args) a in
-        let inner = term-facts t (in-right (linkTokens l) (termTokens t) first) in (
+        let first = each-left In (linkTokens l ++ termTokens t) (sign comma ∷ argumentTokens args) a in
+        let others = each-right In (linkTokens l ++ termTokens t) (sign comma ∷ argumentTokens args) a in
+        let inner = term-facts t (each-right In (linkTokens l) (termTokens t) first) in (
           (h, ltb-true l 16 (a .0), inner .0),
           in-range-append n v (termFacts t) (argumentFacts args j) (inner .1) (argument-facts args j h (others .1)),
         )

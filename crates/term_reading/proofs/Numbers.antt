@@ -2,14 +2,13 @@
 -- Assumes nothing.
 use mathlib.Core.Path.{_≡_, refl, sym, ap, _∙_}
 use mathlib.Core.Logic.{_≢_}
-use mathlib.Core.Bool.{Bool, true, false, not}
+use mathlib.Core.Bool.{Bool, true, false, not, and-eq-true-iff}
 use mathlib.Core.List.{List, [], _∷_, _++_, append-assoc}
 use Prim.Native.Nat.{ℕ, _+_, _-_, _*_, _<_, _≤_}
 use native.Mathlib.Omega.{arith}
 use lib.Dec.{leb}
 use lib.ListN.{length, take}
 use borrow.Author.Tests.{leb-true, ne-eqb, le-ltb, not-true, not-false}
-use Rattle.runs.proofs.Zeros.{both}
 use Rattle.decimals.specs.Decimal.{digit, decimal}
 use Rattle.decimals.proofs.Decimals.{one-digit}
 use Rattle.terms.specs.Machine.{Role, here, isDigit, step, nextDigit, behindNumber, digitsLeft}
@@ -26,11 +25,11 @@ pub record Value (b : ℕ) : Type 0 where
   pub is : b ≡ digit (b - 48)
 
 pub digit-low : (b : ℕ) → isDigit b ≡ true → 48 ≤ b
-digit-low b e = leb-true 48 b (both (leb 48 b) (leb b 57) e .0)
+digit-low b e = leb-true 48 b (and-eq-true-iff (leb 48 b) (leb b 57) .0 e .0)
 
 pub value : (b : ℕ) → isDigit b ≡ true → Value b
 value b e =
-    let high = leb-true b 57 (both (leb 48 b) (leb b 57) e .1) in
+    let high = leb-true b 57 (and-eq-true-iff (leb 48 b) (leb b 57) .0 e .1) in
     record { low = omega (arith, digit-low b e, high); is = omega (arith, digit-low b e) }
 
 -- behind the last digit that a number may have

@@ -110,7 +110,7 @@ module _
         bare-fits zero e = no-level shallow e
         bare-fits (suc levels) e = (head .joint-short, head .kind-short)
 
-    pub bracketed-read : {end : Front} {u : List ℕ} → around < deepest → here text (behind .at) ≡ opening →
+    bracketed-read : {end : Front} {u : List ℕ} → around < deepest → here text (behind .at) ≡ opening →
         ArgumentsRead text n v around j (passed behind) t end u → TermRead text n v around lead from s end u
     unfolding termTokens termFacts step
     bracketed-read {end = end} {u = u} shallow h r =

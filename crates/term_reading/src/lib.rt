@@ -17,17 +17,35 @@ ghost use Rattle.term_reading.specs.Reading.{low, factsRoom, packetRoom,
 use replies::Cause;
 use replies::Reply;
 
-// The most facts of a packet.
-const MOST: usize = 1088;
+const MOST_FACTS: usize = 1088;
 
-// The bytes of a packet that is full.
-const PACKET: usize = 4358;
+const FULL_PACKET: usize = 4358;
 
-// The most bytes of a text.
-const LONGEST: usize = 16777216;
+const LONGEST_TEXT: usize = 16777216;
 
 // What stands for "no number out of range so far".
 const NOWHERE: u32 = 4294967295;
+
+// The signs of a text, each with room for what stands behind its last byte.
+const ZERO: usize = 48;
+
+const NINE: usize = 57;
+
+const AT_SIGN: usize = 64;
+
+const COLON: usize = 58;
+
+const OPENING: usize = 40;
+
+const CLOSING: usize = 41;
+
+const COMMA: usize = 44;
+
+const EQUALS: usize = 61;
+
+const GREATER: usize = 62;
+
+const END: usize = 256;
 
 // How far a text is read: the offset where it goes on, how many facts it has said, and where the first number out of range stands.
 pub struct Front {
@@ -59,20 +77,20 @@ pub enum Lead {
     Argument(usize, usize),
 }
 
-// The byte at an offset, or 256 where the text ends.
+// The byte at an offset, or `END`.
 fn byte_or_end(text: &[u8], at: usize) -> usize
     ensures { λ r. ⌜ r ≡ here (now (text .entry)) at ⌝ }
 {
     if at < text.len() {
         return text[at] as usize;
     }
-    256
+    END
 }
 
 fn is_digit(b: usize) -> bool
     ensures { λ r. ⌜ r ≡ isDigit b ⌝ }
 {
-    48 <= b && b <= 57
+    ZERO <= b && b <= NINE
 }
 
 // What a digit counts.
@@ -80,7 +98,7 @@ fn value(b: usize) -> usize
     requires { ⌜ isDigit b ≡ true ⌝ }
     ensures { λ r. ⌜ (r ≡ b - 48) × (r < 10) ⌝ }
 {
-    b - 48
+    b - ZERO
 }
 
 // A number of one to three digits, with no leading zero.
@@ -92,7 +110,7 @@ fn read_number(text: &[u8], at: usize) -> Number
     if !is_digit(first) {
         return Number::Missing;
     }
-    if first == 48 {
+    if first == ZERO {
         return Number::Is(0, at + 1);
     }
     let one = value(first);
@@ -128,7 +146,7 @@ fn read_joint(text: &[u8], from: Front, v: usize) -> Numbered
     ensures { λ r. ⌜ Told (JointStep (now (text .entry)) v from) r ⌝ }
 {
     let at = from.at;
-    if byte_or_end(text, at) != 64 {
+    if byte_or_end(text, at) != AT_SIGN {
         return Numbered::Stuck(at);
     }
     let found = read_number(text, at + 1);
@@ -155,10 +173,10 @@ fn read_link(text: &[u8], from: Front) -> Numbered
     match found {
         Number::Missing => Numbered::Stuck(at),
         Number::Is(link, end) => {
-            if byte_or_end(text, end) != 61 {
+            if byte_or_end(text, end) != EQUALS {
                 return Numbered::Stuck(end);
             }
-            if byte_or_end(text, end + 1) != 62 {
+            if byte_or_end(text, end + 1) != GREATER {
                 return Numbered::Stuck(end + 1);
             }
             Numbered::Read(
@@ -178,7 +196,7 @@ fn put_fact(to: &mut [u8], i: usize, tag: u8, a: usize, x: usize, y: usize) -> u
     requires { ⌜ (i < longestText) × (length (now to) ≡ factsRoom) ⌝ }
     ensures { λ r. ⌜ PutFact (tag ∷ low a ∷ low x ∷ low y ∷ []) i (now (to .entry)) r (now (to .exit)) ⌝ }
 {
-    if MOST <= i {
+    if MOST_FACTS <= i {
         return i + 1;
     }
     writing::put(
@@ -209,7 +227,7 @@ fn read_kind(text: &[u8], from: Front, joint: usize, n: usize, to: &mut [u8]) ->
     ensures { λ r. ⌜ Told (λ x. KindStep (now (text .entry)) n joint from (now (to .entry)) x (now (to .exit))) r ⌝ }
 {
     let at = from.at;
-    if byte_or_end(text, at) != 58 {
+    if byte_or_end(text, at) != COLON {
         return Step::Read(from);
     }
     let found = read_number(text, at + 1);
@@ -281,7 +299,7 @@ fn read_term(
         Numbered::Stuck(p) => Step::Stuck(p),
         Numbered::Read(joint, behind) => {
             let at = behind.at;
-            if byte_or_end(text, at) != 40 {
+            if byte_or_end(text, at) != OPENING {
                 return Step::Read(behind);
             }
             if around == 15 {
@@ -322,10 +340,10 @@ fn read_arguments(
                     Step::Read(end) => {
                         let at = end.at;
                         let sign = byte_or_end(text, at);
-                        if sign == 41 {
+                        if sign == CLOSING {
                             return Step::Read(passed(end));
                         }
-                        if sign != 44 {
+                        if sign != COMMA {
                             return Step::Stuck(at);
                         }
                         front = passed(end);
@@ -370,7 +388,7 @@ fn put_packet(end: Front, v: u8, packet: &mut [u8], out: &mut [u8]) -> Reply
         return Reply::Refused(Cause::OutOfRange, told);
     }
     let facts = end.facts;
-    if MOST < facts {
+    if MOST_FACTS < facts {
         return Reply::Refused(Cause::TooManyFacts, 0);
     }
     writing::put_header(packet, 4 + 4 * facts, v);
@@ -382,7 +400,7 @@ fn read_packet(text: &[u8], n: u8, v: u8, out: &mut [u8]) -> Reply
     requires { ⌜ length (now text) ≤ longestText ⌝ }
     ensures { λ r. ⌜ TextAnswer (now (text .entry)) n v (now (out .entry)) r (now (out .exit)) ⌝ }
 {
-    let mut packet = [0u8; PACKET];
+    let mut packet = [0u8; FULL_PACKET];
     let read = read_whole(text, n as usize, v as usize, &mut packet[6..]);
     match read {
         Step::Stuck(p) => Reply::Refused(Cause::NoTerm, p as u32),
@@ -394,7 +412,7 @@ fn read_packet(text: &[u8], n: u8, v: u8, out: &mut [u8]) -> Reply
 pub fn read(block: &[u8], text: &[u8], out: &mut [u8]) -> Reply
     ensures { λ r. ⌜ ReadTerm (now (block .entry)) (now (text .entry)) (now (out .entry)) r (now (out .exit)) ⌝ }
 {
-    if LONGEST < text.len() {
+    if LONGEST_TEXT < text.len() {
         return Reply::Refused(Cause::BadSize, 0);
     }
     let reply = blocks::block_reply(block);

@@ -4,7 +4,7 @@
 use mathlib.Core.Path.{_≡_, refl, sym, ap, subst, _∙_}
 use mathlib.Core.Logic.{_≢_}
 use mathlib.Core.Bool.{Bool, true, false, cond}
-use mathlib.Core.List.{List, [], _∷_, _++_}
+use mathlib.Core.List.{List, [], _∷_, _++_, cons≢nil}
 use Prim.Native.Nat.{ℕ, suc, _+_, _*_, _<_, _≤_}
 use native.Mathlib.Omega.{arith}
 use lib.Dec.{eqb}
@@ -16,25 +16,25 @@ use Rattle.terms.specs.Term.{Term, termText, closing}
 use Rattle.writing.specs.Putting.{Room, Put}
 use Rattle.writing.proofs.Putting.{none-put, left-out}
 use Rattle.term_writing.specs.Tree.{Walk, linkTerms, termFrom}
-use Rattle.term_writing.specs.Visiting.{mostText, linkRoom, headText, linkText, argumentsText, argumentText, signBefore}
+use Rattle.term_writing.specs.Visiting.{textRoom, linkRoom, headText, linkText, argumentsText, argumentText, signBefore}
 use Rattle.term_writing.specs.Visiting.{closingText, Unmarked, unmarked, Through, Onward, Visited, Told}
 use Rattle.term_writing.proofs.Texts.{put-as, both-put, head-short, link-short, none-or-all, no-arguments, arguments-more, joint-text}
 use Rattle.term_writing.proofs.Visits.{one-marked, none-visited, link-visited, joint-visited, nothing-onward, onward-visited}
 
 -- a joint that is not marked has its 12 bytes
 pub link-room :
-    (front l at : ℕ) (to seen : List ℕ) {c : ℕ} → l < 16 → c < length seen → Unmarked seen c → at + 12 * unmarked seen ≤ mostText →
-    length to ≡ mostText → Room (linkText front l) at to
+    (front l at : ℕ) (to seen : List ℕ) {c : ℕ} → l < 16 → c < length seen → Unmarked seen c → at + 12 * unmarked seen ≤ textRoom →
+    length to ≡ textRoom → Room (linkText front l) at to
 link-room front l at to seen {c} small inside free room size = omega (arith, link-short front l (omega arith), one-marked seen c inside free)
 
 pub link-left :
     {front l at next : ℕ} {to mid : List ℕ} (seen : List ℕ) → l < 16 → Put (linkText front l) at to mid next →
-    at + 12 * unmarked seen ≤ mostText → next + 12 * unmarked seen ≤ mostText + linkRoom
+    at + 12 * unmarked seen ≤ textRoom → next + 12 * unmarked seen ≤ textRoom + linkRoom
 link-left {front} {l} seen small p room = omega (arith, link-short front l (omega arith), p .ends)
 
 module _ (seen : List ℕ) {j : ℕ} (inside : j < length seen) (free : Unmarked seen j) where
   pub head-room :
-      (s at : ℕ) (to : List ℕ) → j < 64 → s < 64 → at + 12 * unmarked seen ≤ mostText + linkRoom → length to ≡ mostText → Room (headText j s) at to
+      (s at : ℕ) (to : List ℕ) → j < 64 → s < 64 → at + 12 * unmarked seen ≤ textRoom + linkRoom → length to ≡ textRoom → Room (headText j s) at to
   head-room s at to hj hs room size = omega (arith, head-short j s (omega arith) (omega arith), one-marked seen j inside free)
 
   pub head-left :
@@ -54,10 +54,7 @@ first-unknown S j l count e = by-test (eqb (S .link j l) unknown) refl e
         cond b (linksFrom S j (suc l) count) (leads j l (S .link j l) ∷ linksFrom S j (suc l) count) ≡ [] →
         (S .link j l ≡ unknown) × (linksFrom S j (suc l) count ≡ [])
     by-test true q f = (eqb-true _ _ q, f)
-    by-test false q f = absurd (nothing (ap length f))
-      where
-        nothing : suc (length (linksFrom S j (suc l) count)) ≡ 0 → ⊥
-        nothing x = omega (arith, x)
+    by-test false q f = absurd (cons≢nil f)
 
 four-unknown : (S : Form) (j l : ℕ) → linksFrom S j l 4 ≡ [] →
     (S .link j l ≡ unknown) × (S .link j (l + 1) ≡ unknown) × (S .link j (l + 1 + 1) ≡ unknown) × (S .link j (l + 1 + 1 + 1) ≡ unknown)

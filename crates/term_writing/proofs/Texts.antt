@@ -5,7 +5,7 @@ use mathlib.Core.Path.{_≡_, refl, sym, ap, _∙_}
 use mathlib.Core.Logic.{by-cases}
 use mathlib.Core.Bool.{cond}
 use mathlib.Core.List.{List, [], _∷_, _++_, append-assoc, append-nil}
-use Prim.Native.Nat.{ℕ, zero, suc, _+_, _*_, _/_, _%_, _<_, _≤_}
+use Prim.Native.Nat.{ℕ, suc, _+_, _*_, _/_, _%_, _<_, _≤_}
 use native.Mathlib.Omega.{arith}
 use native.Mathlib.Decide.{ℕ-discrete}
 use lib.Dec.{eqb}
@@ -19,7 +19,7 @@ use Rattle.terms.specs.Term.Token.{sign}
 use Rattle.writing.specs.Putting.{Room, Put}
 use Rattle.terms.proofs.Numbers.{two-digits, two-at-most}
 use Rattle.terms.proofs.Running.{text-append, bracketed-text}
-use Rattle.writing.proofs.Putting.{put-begins, put-goes-on, put-ends, maybe-before}
+use Rattle.writing.proofs.Putting.{put-begins, put-goes-on, put-ends, made-split}
 use Rattle.term_writing.specs.Tree.{kindWritten, listed, termWith, linkTerms, termFrom}
 use Rattle.term_writing.specs.Visiting.{kindText, headText, linkText, furtherText, argumentsText, argumentText, signBefore, closingText}
 
@@ -71,6 +71,13 @@ head-short j s hj hs = omega (arith, length-append (decimal j) (kindText s), two
 pub link-short : (front l : ℕ) → l < 100 → length (linkText front l) ≤ 5
 link-short front l h = omega (arith, length-append (decimal l) (equals ∷ greater ∷ []), two-at-most l h)
 
+-- what ends the third of three texts stands behind all three
+behind-three : (a b c d : List ℕ) {e : List ℕ} → e ≡ c ++ d → a ++ (b ++ e) ≡ (a ++ (b ++ c)) ++ d
+behind-three a b c d h =
+    ap (λ (x : List ℕ). a ++ (b ++ x)) h
+    ∙ ap (λ (x : List ℕ). a ++ x) (sym (append-assoc b c d))
+    ∙ sym (append-assoc a (b ++ c) d)
+
 -- one argument more, behind another
 further-more :
     (ps : List (ℕ × Term)) (l : ℕ) (t : Term) →
@@ -78,14 +85,10 @@ further-more :
 unfolding furtherText
 further-more [] l t = ap (λ (x : List ℕ). linkText comma l ++ x) (append-nil (termText t))
 further-more (p ∷ ps) l t =
-    let link = linkText comma (p .0) in
-    let term = termText (p .1) in
-    let next = linkText comma l ++ termText t in
-    ap (λ (x : List ℕ). link ++ (term ++ x)) (further-more ps l t)
-    ∙ ap (λ (x : List ℕ). link ++ x) (sym (append-assoc term (furtherText ps) next))
-    ∙ sym (append-assoc link (term ++ furtherText ps) next)
+    behind-three (linkText comma (p .0)) (termText (p .1)) (furtherText ps) (linkText comma l ++ termText t) (further-more ps l t)
 
--- the text has grown exactly where there is an argument
+-- before one argument more goes the bracket that opens where the text has not grown, and a comma where it has; the argument's text stands
+-- behind that of the others
 module _ (from at : ℕ) where
   argument-behind :
       (ps : List (ℕ × Term)) → at ≡ from + length (argumentsText ps) → (l : ℕ) (t : Term) →
@@ -93,13 +96,8 @@ module _ (from at : ℕ) where
   unfolding argumentsText furtherText
   argument-behind [] e l t = rw (eq-eqb at from (omega (arith, e))) (ap (λ (x : List ℕ). linkText opening l ++ x) (append-nil (termText t)))
   argument-behind (p ∷ ps) e l t =
-      let link = linkText opening (p .0) in
-      let term = termText (p .1) in
-      let next = linkText comma l ++ termText t in
       rw (ne-eqb at from (λ q. omega (arith, e, q)))
-      (ap (λ (x : List ℕ). link ++ (term ++ x)) (further-more ps l t)
-      ∙ ap (λ (x : List ℕ). link ++ x) (sym (append-assoc term (furtherText ps) next))
-      ∙ sym (append-assoc link (term ++ furtherText ps) next))
+      (behind-three (linkText opening (p .0)) (termText (p .1)) (furtherText ps) (linkText comma l ++ termText t) (further-more ps l t))
 
 head-text : (j s : ℕ) → textOf (headTokens j (kindWritten s)) ≡ headText j s
 unfolding textOf
@@ -141,18 +139,8 @@ term-text j s (p ∷ ps) from at e =
 module _ (S : Form) (termOf : ℕ → Term) (j : ℕ) where
   terms-split : (l a b : ℕ) → linkTerms S termOf j l (a + b) ≡ linkTerms S termOf j l a ++ linkTerms S termOf j (l + a) b
   unfolding linkTerms
-  terms-split l zero b =
-      let s : l ≡ l + 0 = omega arith in
-      let e : 0 + b ≡ b = omega arith in
-      ap (linkTerms S termOf j l) e ∙ ap (λ (k : ℕ). linkTerms S termOf j k b) s
-  terms-split l (suc a) b =
-      let e : suc a + b ≡ suc (a + b) = omega arith in
-      let s : suc l + a ≡ l + suc a = omega arith in
-      let next = terms-split (suc l) a b ∙ ap (λ (k : ℕ). linkTerms S termOf j (suc l) a ++ linkTerms S termOf j k b) s in
-      let first : ℕ × Term = (l, termOf (S .link j l)) in
-      ap (linkTerms S termOf j l) e
-      ∙ ap (λ (x : List (ℕ × Term)). cond (eqb (S .link j l) unknown) x (first ∷ x)) next
-      ∙ maybe-before (eqb (S .link j l) unknown) first (linkTerms S termOf j (suc l) a) (linkTerms S termOf j (l + suc a) b)
+  terms-split l a b =
+      made-split (linkTerms S termOf j) (λ i. eqb (S .link j i) unknown) (λ i. (i, termOf (S .link j i))) (λ i. refl) (λ i count. refl) l a b
 
   -- no link yet; and one link more, which leads to c
   pub no-arguments : [] ≡ argumentsText (linkTerms S termOf j 0 0)

@@ -4,8 +4,8 @@
 use mathlib.Core.Path.{_≡_, refl, sym, ap, subst, _∙_}
 use mathlib.Core.Logic.{_≢_, _⊎_, inl, inr, ⊎-elim, by-cases}
 use mathlib.Core.Bool.{Bool, true, false, cond}
-use mathlib.Core.List.{List, [], _∷_}
-use Prim.Native.Nat.{ℕ, zero, suc, _+_, _<_}
+use mathlib.Core.List.{List, [], _∷_, cons≢nil}
+use Prim.Native.Nat.{ℕ, zero, suc, _+_, _<_, _≤_}
 use native.Mathlib.Omega.{arith}
 use native.Mathlib.Decide.{decLt, ℕ-discrete}
 use lib.Dec.{eqb}
@@ -41,6 +41,19 @@ one-marked (x ∷ xs) (suc j) h e = counted (eqb x 0) (one-marked xs j (omega ar
     counted true e = ap suc e
     counted false e = e
 
+-- where no walk leads anywhere there is nothing to visit
+nowhere-visited :
+    {Leads : List ℕ → ℕ → Type 0} (n : ℕ) (seen : List ℕ) → ((w : List ℕ) (m : ℕ) → Leads w m → ⊥) → Visited Leads n seen seen
+nowhere-visited n seen none =
+    record {
+      kept = λ m h. h;
+      marks = λ w m t. absurd (none w m t);
+      new = λ m h. inl h;
+      once = λ w u m p q. absurd (none w m p);
+      short = λ w m t. absurd (none w m t);
+      fresh = λ w m t s. none w m t;
+    }
+
 module _ (S : Form) (j : ℕ) where
   -- the walks through all links are those of one link and more
   walk-of : (w : List ℕ) (m : ℕ) → Through S j 16 w m → Walk S j w m
@@ -49,22 +62,16 @@ module _ (S : Form) (j : ℕ) where
 
   some-link : (w : List ℕ) (m : ℕ) → Through S j 16 w m → w ≢ []
   some-link [] m t e = absurd t
-  some-link (l ∷ ls) m t e = let z : _≡_ {A = ℕ} 0 1 = cc in omega arith
+  some-link (l ∷ ls) m t e = cons≢nil e
 
   module _ (k : ℕ) where
-    through-old : (w : List ℕ) (m : ℕ) → Through S j k w m → Through S j (k + 1) w m
-    through-old [] m t = absurd t
-    through-old (l ∷ ls) m t = (omega (arith, t .0), t .1)
+    -- a walk that begins with a link below k, or with k, begins with one below any greater bound
+    through-wider : (b : ℕ) (w : List ℕ) (m : ℕ) → k ≤ b → Through S j k w m → Through S j b w m
+    through-wider b [] m h t = absurd t
+    through-wider b (l ∷ ls) m h t = (omega (arith, t .0), t .1)
 
-    through-any : (w : List ℕ) (m : ℕ) → k < 16 → Through S j k w m → Through S j 16 w m
-    through-any [] m h t = absurd t
-    through-any (l ∷ ls) m h t = (omega (arith, t .0), t .1)
-
-    through-new : (w : List ℕ) (m : ℕ) → k < 16 → Onward S (S .link j k) w m → Through S j (k + 1) (k ∷ w) m
-    through-new w m h o = (omega arith, (h, o .0, o .1))
-
-    through-link : (w : List ℕ) (m : ℕ) → k < 16 → Onward S (S .link j k) w m → Through S j 16 (k ∷ w) m
-    through-link w m h o = (h, (h, o .0, o .1))
+    through-next : (b : ℕ) (w : List ℕ) (m : ℕ) → k < b → k < 16 → Onward S (S .link j k) w m → Through S j b (k ∷ w) m
+    through-next b w m below h o = (below, (h, o .0, o .1))
 
     -- a walk through link k at the latest goes through an earlier one or through k
     through-cases :
@@ -90,8 +97,8 @@ module _ (S : Form) (j : ℕ) where
             marks = λ w m t. ⊎-elim (λ o. here .kept m (before .marks w m o)) (λ x. here .marks (x .0) m (x .1 .1)) (through-cases w m t);
             new = λ m h.
                 ⊎-elim
-                (λ g. ⊎-elim (λ s. inl s) (λ x. inr (x .0, through-old (x .0) m (x .1))) (before .new m g))
-                (λ x. inr (k ∷ x .0, through-new (x .0) m small (x .1))) (here .new m h);
+                (λ g. ⊎-elim (λ s. inl s) (λ x. inr (x .0, through-wider (k + 1) (x .0) m (omega arith) (x .1))) (before .new m g))
+                (λ x. inr (k ∷ x .0, through-next (k + 1) (x .0) m (omega arith) small (x .1))) (here .new m h);
             once = λ w u m p q.
                 ⊎-elim
                 (λ o. ⊎-elim (λ r. before .once w u m o r) (λ y. absurd (here .fresh (y .0) m (y .1 .1) (before .marks w m o))) (through-cases u m q))
@@ -108,13 +115,13 @@ module _ (S : Form) (j : ℕ) where
           }
 
       through-fails : Failed (Onward S (S .link j k)) n mid → Failed (Through S j 16) (suc n) seen
-      through-fails (too-deep w m o h) = too-deep (k ∷ w) m (through-link w m small o) (omega arith)
+      through-fails (too-deep w m o h) = too-deep (k ∷ w) m (through-next 16 w m small small o) (omega arith)
       through-fails (twice w u m d o p) =
-          twice (k ∷ w) (k ∷ u) m (λ e. d (cc)) (through-link w m small o) (through-link u m small p)
+          twice (k ∷ w) (k ∷ u) m (λ e. d (cc)) (through-next 16 w m small small o) (through-next 16 u m small small p)
       through-fails (met w m o h) =
           ⊎-elim
-          (λ s. met (k ∷ w) m (through-link w m small o) s)
-          (λ x. twice (x .0) (k ∷ w) m (earlier (x .0) m (x .1) w) (through-any (x .0) m small (x .1)) (through-link w m small o))
+          (λ s. met (k ∷ w) m (through-next 16 w m small small o) s)
+          (λ x. twice (x .0) (k ∷ w) m (earlier (x .0) m (x .1) w) (through-wider 16 (x .0) m (omega arith) (x .1)) (through-next 16 w m small small o))
           (before .new m h)
 
       -- the same, of the joint that was read
@@ -126,15 +133,7 @@ module _ (S : Form) (j : ℕ) where
 
   -- before the first link
   pub none-visited : (n : ℕ) (seen : List ℕ) → Visited (Through S j 0) n seen seen
-  none-visited n seen =
-      record {
-        kept = λ m h. h;
-        marks = λ w m t. absurd (none w m t);
-        new = λ m h. inl h;
-        once = λ w u m p q. absurd (none w m p);
-        short = λ w m t. absurd (none w m t);
-        fresh = λ w m t s. none w m t;
-      }
+  none-visited n seen = nowhere-visited n seen none
     where
       none : (w : List ℕ) (m : ℕ) → Through S j 0 w m → ⊥
       none [] m t = t
@@ -189,15 +188,7 @@ module _ (S : Form) (j : ℕ) where
 -- a link that is not known leads nowhere; one that is known leads where the walks from its joint lead
 module _ (S : Form) {c n : ℕ} (seen : List ℕ) where
   pub nothing-onward : c ≡ unknown → Visited (Onward S c) n seen seen
-  nothing-onward e =
-      record {
-        kept = λ m h. h;
-        marks = λ w m o. absurd (o .0 e);
-        new = λ m h. inl h;
-        once = λ w u m o p. absurd (o .0 e);
-        short = λ w m o. absurd (o .0 e);
-        fresh = λ w m o s. o .0 e;
-      }
+  nothing-onward e = nowhere-visited _ seen (λ w m o. o .0 e)
 
   pub onward-visited : {after : List ℕ} → c ≢ unknown → Visited (Walk S c) n seen after → Visited (Onward S c) n seen after
   onward-visited d v =

@@ -20,7 +20,7 @@ use Rattle.terms.specs.Language.{deepest}
 use Rattle.term_writing.specs.Tree.{Walk, TreeFrom}
 use Rattle.term_writing.specs.WriteTerm.{writeTermRefusal, writtenText, WriteTerm}
 use Rattle.term_writing.specs.WriteTerm.WriteTerm.{no-tree, tree}
-use Rattle.term_writing.specs.Visiting.{mostText, linkRoom, Unmarked, unmarked, Failed, Told, Sound, Apart, Accounted, Missed}
+use Rattle.term_writing.specs.Visiting.{textRoom, linkRoom, Unmarked, unmarked, Failed, Told, Sound, Apart, Accounted, Missed}
 use Rattle.term_writing.proofs.Trees.{well-sound, failed-no-tree, missed-no-tree, visited-tree}
 
 -- at the start no joint is marked
@@ -82,7 +82,7 @@ module _ (b : List ℕ) (root : ℕ) where
         text-front : take end told ≡ writtenText b root
         text-front = t .put .front
 
-        pub text-short : end ≤ mostText
+        pub text-short : end ≤ textRoom
         text-short = omega (arith, t .room, all-unmarked)
 
         pub tree-told :

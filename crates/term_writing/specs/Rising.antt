@@ -1,4 +1,5 @@
--- "Kinds but 1 are written, links rise": what the term of a written text is like.
+-- What the term of a written text is like: no kind in it is 1, and its links rise. That no other kind is left out is said by `kindWritten` (Tree.antt)
+-- and by the trip there and back.
 -- Assumes nothing.
 use mathlib.Core.Logic.{_≢_}
 use Prim.Native.Nat.{ℕ, suc, _≤_}

@@ -15,9 +15,9 @@ use Rattle.terms.specs.Term.{Term, termText, at-sign, colon, opening, closing, 
 use Rattle.writing.specs.Putting.{Put}
 use Rattle.term_writing.specs.Tree.{Walk, linkTerms, termFrom}
 
--- the most bytes that a text has: 12 for each of 64 joints
-abbrev pub mostText : ℕ
-mostText = 768
+-- room for any text: 12 bytes for each of 64 joints
+abbrev pub textRoom : ℕ
+textRoom = 768
 
 -- of these, those of the sign and the link before a term
 abbrev pub linkRoom : ℕ
@@ -126,7 +126,7 @@ pub record Sound (v : ℕ) (S : Form) : Type 0 where
 pub record Ready (block to seen : List ℕ) : Type 0 where
   pub session : sessionSize ≤ length block
   pub sound : Sound (jointsOf block) (blockForm block)
-  pub to-size : length to ≡ mostText
+  pub to-size : length to ≡ textRoom
   pub seen-size : length seen ≡ 64
 
 -- no two joints of the block are joined

@@ -13,13 +13,13 @@ ghost use Rattle.replies.specs.declared.Reply.the-variants.{Done};
 ghost use Rattle.blocks.specs.WellFormed.{blockReply};
 ghost use Rattle.writing.specs.Putting.{Room, Put};
 ghost use Rattle.term_writing.specs.WriteTerm.{WriteTerm};
-ghost use Rattle.term_writing.specs.Visiting.{mostText, linkRoom, kindText, headText, linkText, signBefore, closingText};
+ghost use Rattle.term_writing.specs.Visiting.{textRoom, linkRoom, kindText, headText, linkText, signBefore, closingText};
 ghost use Rattle.term_writing.specs.Visiting.{Unmarked, unmarked, Either, TermFound, ArgumentsFound, ArgumentFound, Ready, Apart, Accounted, Missed};
 use replies::Cause;
 use replies::Reply;
 
-// The most bytes that a text has: for each joint `dd=>` with a sign before it, `@dd:dd`, and a bracket that closes.
-const MOST: usize = 768;
+// Room for any text: for each of 64 joints `dd=>` with a sign before it, `@dd:dd`, and a bracket that closes.
+const TEXT_ROOM: usize = 768;
 
 // How many levels may stand below the root's.
 const BELOW_ROOT: usize = 15;
@@ -107,7 +107,7 @@ fn put_closing(to: &mut [u8], from: usize, at: usize) -> usize
 
 // The term of a joint that is not marked yet, with the terms below it.
 fn visit_term(block: &[u8], j: u8, below: usize, to: &mut [u8], at: usize, seen: &mut [u8]) -> Visit
-    requires { ⌜ Ready (now block) (now to) (now seen) ⌝ ∗ ⌜ (j < jointsOf (now block)) × Unmarked (now seen) j × (at + 12 * unmarked (now seen) ≤ mostText + linkRoom) ⌝ }
+    requires { ⌜ Ready (now block) (now to) (now seen) ⌝ ∗ ⌜ (j < jointsOf (now block)) × Unmarked (now seen) j × (at + 12 * unmarked (now seen) ≤ textRoom + linkRoom) ⌝ }
     ensures { λ r. ⌜ TermFound (blockForm (now (block .entry))) j below at
         (now (to .entry)) (now (to .exit)) (now (seen .entry)) (now (seen .exit)) (r .ok) (r .at) ⌝ }
 {
@@ -152,7 +152,7 @@ fn visit_arguments(
     from: usize,
     seen: &mut [u8],
 ) -> Visit
-    requires { ⌜ Ready (now block) (now to) (now seen) ⌝ ∗ ⌜ (j < jointsOf (now block)) × (from + 12 * unmarked (now seen) ≤ mostText) ⌝ }
+    requires { ⌜ Ready (now block) (now to) (now seen) ⌝ ∗ ⌜ (j < jointsOf (now block)) × (from + 12 * unmarked (now seen) ≤ textRoom) ⌝ }
     ensures { λ r. ⌜ ArgumentsFound (blockForm (now (block .entry))) j below from
         (now (to .entry)) (now (to .exit)) (now (seen .entry)) (now (seen .exit)) (r .ok) (r .at) ⌝ }
 {
@@ -186,7 +186,7 @@ fn visit_argument(
     at: usize,
     seen: &mut [u8],
 ) -> Visit
-    requires { ⌜ Ready (now block) (now to) (now seen) ⌝ ∗ ⌜ (l < 16) × ((c ≡ unknown → ⊥) → c < jointsOf (now block)) × (at + 12 * unmarked (now seen) ≤ mostText) ⌝ }
+    requires { ⌜ Ready (now block) (now to) (now seen) ⌝ ∗ ⌜ (l < 16) × ((c ≡ unknown → ⊥) → c < jointsOf (now block)) × (at + 12 * unmarked (now seen) ≤ textRoom) ⌝ }
     ensures { λ r. ⌜ ArgumentFound (blockForm (now (block .entry))) l c below from at
         (now (to .entry)) (now (to .exit)) (now (seen .entry)) (now (seen .exit)) (r .ok) (r .at) ⌝ }
 {
@@ -264,7 +264,7 @@ fn write_apart(block: &[u8], root: u8, v: usize, out: &mut [u8]) -> Reply
     requires { ⌜ (blockReply (now block) ≡ Done 0) × (root < jointsOf (now block)) × (v ≡ jointsOf (now block)) ⌝ ∗ ⌜ Apart (now block) ⌝ }
     ensures { λ r. ⌜ WriteTerm (now (block .entry)) root (now (out .entry)) r (now (out .exit)) ⌝ }
 {
-    let mut text = [0u8; MOST];
+    let mut text = [0u8; TEXT_ROOM];
     let mut seen = [0u8; 64];
     let visit = visit_term(block, root, BELOW_ROOT, &mut text, 0, &mut seen);
     if !visit.ok {

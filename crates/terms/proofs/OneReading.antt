@@ -4,7 +4,7 @@
 use mathlib.Core.Path.{_≡_, refl, sym, _∙_, ap, ap₂, subst}
 use mathlib.Core.Logic.{_≢_}
 use mathlib.Core.Bool.{true, false, cond}
-use mathlib.Core.List.{List, [], _∷_, _++_, append-assoc, append-nil}
+use mathlib.Core.List.{List, [], _∷_, _++_, append-assoc, append-nil, head-eq-of-cons-eq as first-same, tail-eq-of-cons-eq as rest-same}
 use Prim.Native.Nat.{ℕ, zero, suc, _<_}
 use native.Mathlib.Omega.{arith}
 use Rattle.decimals.specs.Decimal.{decimal}
@@ -40,12 +40,6 @@ BehindHead b = NoDigit b × (b ≢ colon)
 
 abbrev BehindTerm : ℕ → Type 0
 BehindTerm b = NoDigit b × (b ≢ colon) × (b ≢ opening)
-
-first-same : {a b : ℕ} {x y : List ℕ} → a ∷ x ≡ b ∷ y → a ≡ b
-first-same e = cc
-
-rest-same : {a b : ℕ} {x y : List ℕ} → a ∷ x ≡ b ∷ y → x ≡ y
-rest-same e = cc
 
 -- a list cut at its first byte that is no digit
 abbrev front : List ℕ → List ℕ

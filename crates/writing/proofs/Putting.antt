@@ -20,7 +20,7 @@ use Rattle.packets.proofs.FactsPacket.{bytes-four}
 use Rattle.writing.specs.Putting.{Room, Put, formBytes, kindBytes, linkBytes, sameBytes}
 
 -- bytes that stand where others stood
-pub placed :
+placed :
     (bytes s : List ℕ) {t : List ℕ} (at : ℕ) → at + length bytes ≤ length s → t ≡ (take at s ++ bytes) ++ drop (at + length bytes) s →
     Put bytes at s t (at + length bytes)
 placed bytes s at h e =
@@ -127,9 +127,28 @@ maybe-first true f fs = refl
 maybe-first false f fs = refl
 
 -- what a test may leave out, in front of two lists
-pub maybe-before : {A : Type 0} (b : Bool) (x : A) (xs ys : List A) → cond b (xs ++ ys) (x ∷ (xs ++ ys)) ≡ cond b xs (x ∷ xs) ++ ys
+maybe-before : {A : Type 0} (b : Bool) (x : A) (xs ys : List A) → cond b (xs ++ ys) (x ∷ (xs ++ ys)) ≡ cond b xs (x ∷ xs) ++ ys
 maybe-before true x xs ys = refl
 maybe-before false x xs ys = refl
+
+-- a list made number by number, of each what a test may leave out: that of the first a numbers, then that of the next b
+module _
+    {A : Type 0} (made : ℕ → ℕ → List A) (out : ℕ → Bool) (own : ℕ → A) (none : (l : ℕ) → made l 0 ≡ [])
+    (next : (l count : ℕ) → made l (suc count) ≡ cond (out l) (made (suc l) count) (own l ∷ made (suc l) count)) where
+  pub made-split : (l a b : ℕ) → made l (a + b) ≡ made l a ++ made (l + a) b
+  made-split l zero b =
+      let s : l ≡ l + 0 = omega arith in
+      let e : 0 + b ≡ b = omega arith in
+      ap (made l) e ∙ ap (λ (k : ℕ). made k b) s ∙ ap (λ (xs : List A). xs ++ made (l + 0) b) (sym (none l))
+  made-split l (suc a) b =
+      let e : suc a + b ≡ suc (a + b) = omega arith in
+      let s : suc l + a ≡ l + suc a = omega arith in
+      let others = made-split (suc l) a b ∙ ap (λ (k : ℕ). made (suc l) a ++ made k b) s in
+      ap (made l) e
+      ∙ next l (a + b)
+      ∙ ap (λ (xs : List A). cond (out l) xs (own l ∷ xs)) others
+      ∙ maybe-before (out l) (own l) (made (suc l) a) (made (l + suc a) b)
+      ∙ ap (λ (xs : List A). xs ++ made (l + suc a) b) (sym (next l a))
 
 module _ (S : Form) where
   -- what is left at link l of joint j's links below `last`, and at joint j of v
@@ -152,17 +171,8 @@ module _ (S : Form) where
 
   links-split : (j l a b : ℕ) → linksFrom S j l (a + b) ≡ linksFrom S j l a ++ linksFrom S j (l + a) b
   unfolding linksFrom
-  links-split j l zero b =
-      let s : l ≡ l + 0 = omega arith in
-      let e : 0 + b ≡ b = omega arith in
-      ap (linksFrom S j l) e ∙ ap (λ (k : ℕ). linksFrom S j k b) s
-  links-split j l (suc a) b =
-      let e : suc a + b ≡ suc (a + b) = omega arith in
-      let s : suc l + a ≡ l + suc a = omega arith in
-      let next = links-split j (suc l) a b ∙ ap (λ (k : ℕ). linksFrom S j (suc l) a ++ linksFrom S j k b) s in
-      ap (linksFrom S j l) e
-      ∙ ap (λ (fs : List (Fact ℕ)). cond (eqb (S .link j l) unknown) fs (leads j l (S .link j l) ∷ fs)) next
-      ∙ maybe-before (eqb (S .link j l) unknown) (leads j l (S .link j l)) (linksFrom S j (suc l) a) (linksFrom S j (l + suc a) b)
+  links-split j l a b =
+      made-split (linksFrom S j) (λ i. eqb (S .link j i) unknown) (λ i. leads j i (S .link j i)) (λ i. refl) (λ i count. refl) l a b
 
   -- the q-th four of 16 links
   pub fours-step : (j q : ℕ) → q < 4 → linksLeft j 16 (4 * q) ≡ formBytes (linksFrom S j (4 * q) 4) ++ linksLeft j 16 (4 * (q + 1))
@@ -199,11 +209,11 @@ module _ (S : Form) where
   joints-end {v} {j} h = let e : v - j ≡ 0 = omega arith in rw e
 
   -- the facts of a joint that is not its class's smallest, and of one that is
-  pub at-other : (j : ℕ) {c : ℕ} → c ≡ S .class j → (c ≡ j → ⊥) → formBytes (factsAt S j) ≡ sameBytes j c
+  at-other : (j : ℕ) {c : ℕ} → c ≡ S .class j → (c ≡ j → ⊥) → formBytes (factsAt S j) ≡ sameBytes j c
   unfolding factsAt allBytes
   at-other j {c} e d = rw (← e, ne-eqb c j d)
 
-  pub at-smallest : (j : ℕ) {c k : ℕ} → c ≡ S .class j → c ≡ j → k ≡ S .kind j → formBytes (factsAt S j) ≡ kindBytes j k ++ linksLeft j 16 0
+  at-smallest : (j : ℕ) {c k : ℕ} → c ≡ S .class j → c ≡ j → k ≡ S .kind j → formBytes (factsAt S j) ≡ kindBytes j k ++ linksLeft j 16 0
   unfolding factsAt
   at-smallest j {c} {k} e d q = rw (← e, eq-eqb c j d, ← q) (maybe-first (eqb k 1) (has-kind j k) (linksFrom S j 0 16))
 

@@ -1,4 +1,4 @@
--- Bytes put one after the other: what the parts of writing do. No call of a session cites these.
+-- Bytes put one after the other: what the parts of writing do, and of the calls on terms. No call of a session cites these.
 -- Assumes nothing.
 use mathlib.Core.Path.{_≡_}
 use mathlib.Core.Bool.{cond}

@@ -12,8 +12,7 @@ ghost use Rattle.writing.specs.Write.{solvedForm, writeReply, writtenOut
 ghost use Rattle.writing.specs.Putting.{mostBytes, Room, Put, formBytes, kindBytes, linkBytes};
 use replies::Reply;
 
-// The most bytes that a solved form has.
-const MOST: usize = 4358;
+const LONGEST_FORM: usize = 4358;
 
 // The four bytes of a fact, put at a place; the place behind them.
 pub fn put(to: &mut [u8], at: usize, tag: u8, a: u8, x: u8, y: u8) -> usize
@@ -170,7 +169,7 @@ fn put_measured(block: &[u8], out: &mut [u8]) -> Reply
     ensures { λ r. ⌜ (r ≡ outputReply (solvedForm (now (block .entry))) (now (out .entry)))
         × (now (out .exit) ≡ outputAfter (solvedForm (now (block .entry))) (now (out .entry))) ⌝ }
 {
-    let mut form = [0u8; MOST];
+    let mut form = [0u8; LONGEST_FORM];
     let size = put_form(&mut form, block);
     outputs::put_out(out, &form[..size])
 }
@@ -184,7 +183,7 @@ pub fn write(block: &[u8], out: &mut [u8]) -> Reply
     if replies::is_refusal(reply) {
         return reply;
     }
-    if MOST <= out.len() {
+    if LONGEST_FORM <= out.len() {
         return put_straight(block, out);
     }
     put_measured(block, out)

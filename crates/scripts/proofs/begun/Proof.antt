@@ -1,7 +1,6 @@
--- `scripts::begun` meets its contract.
+-- `scripts::begun` meets its contract: the text's beginning, with no bytes.
 -- Assumes nothing.
 use mathlib.Core.Path.{ap}
-use Rattle.scripts.specs.declared.Script.{Script}
 use Rattle.scripts.specs.declared.Bytes.{Bytes}
 use borrow.Author.Needs.{needs}
 use Rattle.scripts.proofs.begun.Statement.{statement}

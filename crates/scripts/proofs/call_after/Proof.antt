@@ -4,7 +4,6 @@ use mathlib.Core.Path.{ap}
 use Prim.Native.Nat.{ℕ}
 use borrow.Author.Tests.{eq-eqb, ne-eqb}
 use Rattle.scripts.specs.declared.Bytes.{Bytes}
-use Rattle.scripts.specs.declared.Script.{Script}
 use borrow.Author.Needs.{needs}
 use Rattle.scripts.proofs.call_after.Statement.{statement}
 use Rattle.scripts.proofs.call_after.Tie as tie

@@ -1,6 +1,5 @@
 -- `scripts::digit` meets its contract: the two ranges of digits.
 -- Assumes nothing.
-use mathlib.Core.Path.{_∙_, sym}
 use native.Mathlib.Omega.{arith}
 use borrow.Author.Tests.{le-leb, lt-leb}
 use borrow.Author.Needs.{needs}

@@ -1,7 +1,6 @@
--- `scripts::is_plain` meets its contract.
+-- `scripts::is_plain` meets its contract: the two signs, one after the other.
 -- Assumes nothing.
 use borrow.Author.Tests.{eq-eqb, ne-eqb}
-use borrow.Author.Needs.{needs}
 use Rattle.scripts.proofs.is_plain.Statement.{statement}
 use Rattle.scripts.proofs.is_plain.Tie as tie
 

@@ -1,4 +1,4 @@
--- `scripts::is_text` meets its contract.
+-- `scripts::is_text` meets its contract: outside of comments and calls a plain letter is text.
 -- Assumes nothing.
 use borrow.Author.Tests.{eq-eqb, ne-eqb}
 use borrow.Author.Needs.{needs}

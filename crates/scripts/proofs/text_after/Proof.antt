@@ -1,7 +1,6 @@
 -- `scripts::text_after` meets its contract: the tests are those of the definition.
 -- Assumes nothing.
 use borrow.Author.Tests.{eq-eqb, ne-eqb}
-use borrow.Author.Needs.{needs}
 use Rattle.scripts.proofs.text_after.Statement.{statement}
 use Rattle.scripts.proofs.text_after.Tie as tie
 

@@ -1,6 +1,6 @@
--- `scripts::with_digits` meets its contract.
+-- `scripts::with_digits` meets its contract: a size inside the room, and a byte of two digits.
 -- Assumes nothing.
-use mathlib.Core.Path.{_≡_, refl, ap, ap₂, _∙_}
+use mathlib.Core.Path.{_≡_}
 use mathlib.Core.List.{List}
 use Prim.Native.Nat.{ℕ, _+_, _*_}
 use native.Mathlib.Omega.{arith}

@@ -1,9 +1,8 @@
--- `scripts::with_repeats` meets its contract.
+-- `scripts::with_repeats` meets its contract: where nine bytes stand there, the facts begin nine before the end.
 -- Assumes nothing.
-use mathlib.Core.Path.{_≡_, ap, _∙_, sym}
+use mathlib.Core.Path.{_≡_, sym}
 use mathlib.Core.List.{List}
 use Prim.Native.Nat.{ℕ, _+_, _-_, _*_}
-use native.Mathlib.Omega.{arith}
 use borrow.Author.Tests.{lt-ltb, le-ltb}
 use Rattle.scripts.specs.declared.Bytes.{Bytes}
 use Rattle.scripts.specs.Rooms.{byteAt}

@@ -1,6 +1,6 @@
 -- `tables::first_entry` meets its contract. At p, the reply is that to the entries from p on.
 -- Assumes nothing.
-use mathlib.Core.Path.{_≡_, sym, _∙_}
+use mathlib.Core.Path.{_≡_, refl, sym, _∙_}
 use mathlib.Core.List.{[], _∷_, _++_}
 use Prim.Native.Nat.{ℕ, _+_, _-_, _*_, _≤_}
 use native.Mathlib.Omega.{arith}
@@ -50,13 +50,13 @@ loop-again : tie.Need-loop-again Inv-loop μ-loop Inv-entries μ-entries
 unfolding lawReply
 loop-again c = let l = c .before .before .before .before .loop in
     let s = c .before .before .before .before .before .before .before .args in
-    (omega arith, l .inv .1, kept (l .inv .2) (omega arith) (passed _ _ (lt-ltb (getD (s .table .now) (l .p) 0) (s .n) (omega arith))))
+    (omega arith, l .inv .1, kept (l .inv .2) (omega arith) refl (passed _ _ (lt-ltb (getD (s .table .now) (l .p) 0) (s .n) (omega arith))))
 
 returns : tie.Need-returns Inv-loop μ-loop Inv-entries μ-entries
 unfolding lawReply
 returns c = let l = c .before .before .before .before .loop in
     let s = c .before .before .before .before .before .before .before .args in
-    sym (broken (l .inv .2) (omega arith) (failed _ _ (le-ltb (getD (s .table .now) (l .p) 0) (s .n) (omega arith))))
+    sym (broken (l .inv .2) (omega arith) refl (failed _ _ (le-ltb (getD (s .table .now) (l .p) 0) (s .n) (omega arith))))
 
 returns-2 : tie.Need-returns-2 Inv-loop μ-loop Inv-entries μ-entries
 returns-2 c = sym (closes (c .before .loop .inv .2) (omega arith) ∙ no-more _ _)

@@ -59,7 +59,7 @@ loop2-again : tie.Need-loop2-again Inv-loop2 μ-loop2 Inv-loop μ-loop Inv-pairs
 unfolding lawReply
 loop2-again c = (
   omega arith,
-  kept (c .before .before .before .before .loop2 .inv .1) (c .before .before .before .loop2-test .taken)
+  kept (c .before .before .before .before .loop2 .inv .1) (c .before .before .before .loop2-test .taken) refl
       (equal _ _ (sym (c .before .before .kind-at .ensures .0) ∙ c .if1 .left ∙ c .before .kind-at2 .ensures .0)),
 )
 
@@ -75,7 +75,7 @@ loop-again c = (omega arith, record { is = closes (c .before .loop2 .inv .1) (c 
 returns : tie.Need-returns Inv-loop2 μ-loop2 Inv-loop μ-loop Inv-pairs μ-pairs
 unfolding lawReply
 returns c = told (c .offset .ensures)
-    (broken (c .before .before .before .before .before .loop2 .inv .1) (c .before .before .before .before .loop2-test .taken)
+    (broken (c .before .before .before .before .before .loop2 .inv .1) (c .before .before .before .before .loop2-test .taken) refl
     (unequal _ _ (λ e. c .before .if1 .taken (c .before .before .before .kind-at .ensures .0 ∙ e ∙ sym (c .before .before .kind-at2 .ensures .0)))))
 
 returns-2 : tie.Need-returns-2 Inv-loop2 μ-loop2 Inv-loop μ-loop Inv-pairs μ-pairs

@@ -9,8 +9,8 @@ use borrow.Author.Tests.{not-true, not-false}
 use Rattle.replies.specs.Replies.{refuses}
 use Rattle.tables.specs.Check.{firstBreach}
 use Rattle.tables.specs.Triples.{toLookAt, triplesMeant}
-use Rattle.tables.proofs.Scan.{Loop, rest, passed, failed, closes, told}
-use Rattle.tables.proofs.LookedAt.{withFirst, withMiddle, withLast, first-loop, first-ends, middle-loop, last-loop, triple-kept, triple-broken}
+use Rattle.tables.proofs.Scan.{Loop, rest, passed, failed, kept, broken, closes, told}
+use Rattle.tables.proofs.LookedAt.{withFirst, withMiddle, withLast, first-loop, first-ends, middle-loop, last-loop, one-law}
 use Rattle.tables.proofs.first_triple.Statement.{statement}
 use Rattle.tables.proofs.first_triple.Tie as tie
 
@@ -99,7 +99,7 @@ loop3-again :
     tie.Need-loop3-again Inv-loop3 μ-loop3 Inv-loop2 μ-loop2 Inv-loop μ-loop Inv-triples μ-triples
 loop3-again c = let at = c .before .before .before .loop3 .inv in (
   omega arith,
-  triple-kept (at .1) (c .before .before .before .before .before .before .before .before .loop .inv .0) (c .before .before .before .before .before .before .loop2 .inv .0) (at .0) (c .before .before .loop3-test .taken)
+  kept (at .1) (c .before .before .loop3-test .taken) (one-law (c .before .before .before .before .before .before .before .before .loop .inv .0) (c .before .before .before .before .before .before .loop2 .inv .0) (at .0))
       (ap refuses (c .before .groups .ensures) ∙ passed _ _ (not-false (c .before .groups .result) (c .if1 .left))),
 )
 
@@ -131,7 +131,7 @@ returns :
     tie.Need-returns Inv-loop3 μ-loop3 Inv-loop2 μ-loop2 Inv-loop μ-loop Inv-triples μ-triples
 returns c = let at = c .before .before .before .before .loop3 .inv in
     told (c .offset .ensures)
-    (triple-broken (at .1) (c .before .before .before .before .before .before .before .before .before .loop .inv .0) (c .before .before .before .before .before .before .before .loop2 .inv .0) (at .0) (c .before .before .before .loop3-test .taken)
+    (broken (at .1) (c .before .before .before .loop3-test .taken) (one-law (c .before .before .before .before .before .before .before .before .before .loop .inv .0) (c .before .before .before .before .before .before .before .loop2 .inv .0) (at .0))
     (c .before .before .groups .ensures ∙ failed _ _ (not-true (c .before .before .groups .result) (c .before .if1 .taken))))
 
 returns-2 :

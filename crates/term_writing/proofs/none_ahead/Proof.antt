@@ -4,9 +4,6 @@ use mathlib.Core.Bool.{false≢true}
 use borrow.Author.Needs.{needs}
 use Rattle.term_writing.proofs.none_ahead.Statement.{statement}
 use Rattle.term_writing.proofs.none_ahead.Tie as tie
-use Rattle.term_writing.proofs.none_ahead.Reads as reads
-use Rattle.term_writing.proofs.none_ahead.Lts as lts
-use Rattle.writing.proofs.none_of_four.Reads as none-of-four-reads
 
 returns : tie.Need-returns
 returns c = λ e. absurd (false≢true e)

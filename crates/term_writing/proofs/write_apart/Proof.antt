@@ -10,7 +10,7 @@ use borrow.Author.Tests.{not-true, not-false}
 use Rattle.joints.specs.Layout.{blockForm}
 use Rattle.term_writing.specs.Tree.{Walk}
 use Rattle.term_writing.specs.WriteTerm.{writtenText}
-use Rattle.term_writing.specs.Visiting.{mostText, linkRoom, Told}
+use Rattle.term_writing.specs.Visiting.{textRoom, linkRoom, Told}
 use Rattle.term_writing.proofs.Writes.{none-marked, all-unmarked, good, session, sound, failed-told, missed-told, text-short, tree-told}
 use Rattle.term_writing.proofs.write_apart.Statement.{statement}
 use Rattle.term_writing.proofs.write_apart.Tie as tie
@@ -27,7 +27,7 @@ told c =
     let visit = test .before .before .before .before in
     visit .visit-term .ensures .yes (not-false _ (test .if1 .left))
 
-short : (c : tie.After-all-accounted) → c .before .before .before .before .before .before .visit-term .result .at ≤ mostText
+short : (c : tie.After-all-accounted) → c .before .before .before .before .before .before .visit-term .result .at ≤ textRoom
 short c =
     let s = c .before .before .before .before .before .before .before .before .before .before .before in
     let p = s .pre .0 in
