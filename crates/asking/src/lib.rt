@@ -1,5 +1,6 @@
 // Asking a rule: its joints are nodes behind the rig's, and its ties and facts are taken there. A clash rules it out; where nothing
 // new is said of the rig, and each of its joints is one with a rig joint, it applies; otherwise it waits.
+#![tactic(auto)]
 ghost use Rattle.std.specs.Prelude.{◌≡◌, true, false, map, ℕ, ◌+◌, ◌*◌, ◌<◌, ◌≤◌, length, get_or};
 ghost use Rattle.replies.specs.declared.Reply.TheVariants.{Done};
 ghost use Rattle.kinds.specs.Kinds.{meet_at};

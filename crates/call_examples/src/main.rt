@@ -1,11 +1,12 @@
 // Makes the calls of a script. The answer to a call is number, place and third, whether the block is the same as before, and the output.
+#![tactic(auto)]
 ghost use Rattle.std.specs.Prelude.{◌<◌};
 
 use replies::Reply;
 use scripts::{Bytes, Room};
 
 // The answer to a call, with what it could change and what it only read as they are then.
-#[derive(Drop)]
+#[derive(Clone, Copy)]
 struct Answer {
     reply: Reply,
     lent: Room,

@@ -1,4 +1,6 @@
 // Numbers in decimal, as lines and terms have them.
+#![tactic(auto)]
+
 ghost use Rattle.std.specs.Prelude.{◌≡◌, ◌<◌};
 ghost use Rattle.decimals.specs.Decimal.{digit as Decimal·digit};
 

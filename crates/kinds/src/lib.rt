@@ -1,4 +1,6 @@
 // Kinds: the meet of two of them in a table of n × n bytes, as a byte and as a kind. The definitions and the laws that it stands on are in specs/ and proofs/.
+#![tactic(auto)]
+
 ghost use Rattle.std.specs.Prelude.{◌≡◌, ◌*◌, ◌<◌, ◌≤◌, length};
 ghost use Rattle.kinds.specs.Kinds.{meet_at};
 ghost use Rattle.kinds.specs.Sizes.{Sized, AllKinds};

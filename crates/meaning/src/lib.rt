@@ -1,23 +1,24 @@
 // The words that packets and rules are made of. A rig joint's number and a rule joint's number are two types, so that
 // neither is ever used for the other; a tie is the one place that holds both.
+#![tactic(auto)]
 
 ghost use Rattle.std.specs.Prelude.{◌≡◌};
 ghost use Rattle.meaning.specs.Rule.{verdict_number};
 
-#[derive(Drop)]
+#[derive(Clone, Copy)]
 pub struct RigJoint(pub u8);
 
-#[derive(Drop)]
+#[derive(Clone, Copy)]
 pub struct RuleJoint(pub u8);
 
-#[derive(Drop)]
+#[derive(Clone, Copy)]
 pub struct Tie {
     pub rule: RuleJoint,
     pub rig: RigJoint,
 }
 
 // A fact on rig joints: a kind, an equality, or a numbered link.
-#[derive(Drop)]
+#[derive(Clone, Copy)]
 pub enum RigFact {
     Kind(RigJoint, u8),
     Same(RigJoint, RigJoint),
@@ -25,7 +26,7 @@ pub enum RigFact {
 }
 
 // A fact on a rule's own joints.
-#[derive(Drop)]
+#[derive(Clone, Copy)]
 pub enum RuleFact {
     Kind(RuleJoint, u8),
     Same(RuleJoint, RuleJoint),
@@ -33,7 +34,7 @@ pub enum RuleFact {
 }
 
 // What the library says of a rule.
-#[derive(Drop)]
+#[derive(Clone, Copy)]
 pub enum Verdict {
     Applies,
     RuledOut,

@@ -1,9 +1,11 @@
 // The replies of every call: done, or refused for a cause that has its number in the table 'Replies'.
+#![tactic(auto)]
+
 ghost use Rattle.std.specs.Prelude.{◌≡◌, [], ◌∷◌, ◌^◌, ◌<◌};
 ghost use Rattle.replies.specs.Replies.{cause_number, number, place, third, packed, refuses, first_refusal};
 
 // Why a call is refused.
-#[derive(Drop)]
+#[derive(Clone, Copy)]
 pub enum Cause {
     // 1: n or V out of range, a lent slice that has not its size, or a text that is too long.
     BadSize,
@@ -39,7 +41,7 @@ pub enum Cause {
     NoTree,
 }
 
-#[derive(Drop)]
+#[derive(Clone, Copy)]
 pub enum Reply {
     // Done, with the third number.
     Done(u32),

@@ -1,5 +1,6 @@
 // Reads V as one byte, then packets, from standard input, and writes one line a call: a word, then number, place and third.
 // The kinds are the house kinds.
+#![tactic(auto)]
 ghost use Rattle.std.specs.Prelude.{◌≡◌, ℕ, ◌+◌, ◌≤◌, ◌<◌, length, take};
 ghost use Rattle.blocks.specs.Layout.{block_size};
 ghost use Rattle.lines.specs.Text.{line, longest_word, room, holding};
@@ -19,7 +20,7 @@ const LONGEST_PACKET: usize = 4374;
 const HOUSE_KINDS: u64 = 33;
 
 // How a run goes on from the two bytes of L.
-#[derive(Drop)]
+#[derive(Clone, Copy)]
 enum Step {
     // No packet is left.
     End,
@@ -122,7 +123,7 @@ fn told(block: &mut [u8], packet: [u8; LONGEST_PACKET], step: Step, rest: usize)
 }
 
 // The line of `open`, and whether it ends the run.
-#[derive(Drop)]
+#[derive(Clone, Copy)]
 struct Opened {
     line: Line,
     refused: bool,

@@ -1,4 +1,6 @@
 // Runs of bytes: repeated, copied, tested. No loop here has a branch beside its end, so that many bytes can be handled at once.
+#![tactic(auto)]
+
 ghost use Rattle.std.specs.Prelude.{◌≡◌, true, false, max, length, replicate};
 ghost use Rattle.runs.specs.Runs.{all_zero, within};
 

@@ -1,4 +1,5 @@
 // Replies 5 to 9, to any bytes.
+#![tactic(auto)]
 ghost use Rattle.std.specs.Prelude.{◌≡◌, ◌&&◌, ◌+◌, ◌*◌, ◌≤◌, length};
 ghost use Rattle.packets.specs.Packet.{ties};
 ghost use Rattle.screening.specs.Screening.{length_fits, count_fits, facts_wanted, rule_wanted, tie_fits, fact_fits, first_bad_tie, first_bad_fact, packet_reply};
@@ -8,14 +9,14 @@ use replies::{Cause, Reply};
 
 mod words;
 
-#[derive(Drop)]
+#[derive(Clone, Copy)]
 pub struct Range {
     pub from: usize,
     pub to: usize,
 }
 
 // What a call wants of a packet: its purpose, and how many ties and joints it may have.
-#[derive(Drop)]
+#[derive(Clone, Copy)]
 pub struct Wanted {
     pub purpose: usize,
     pub ties: Range,

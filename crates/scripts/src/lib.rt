@@ -3,6 +3,7 @@
 // and a program writes the answer to a call in the place of the call. In a call `fact step count*` stands for `count` facts of four bytes, each
 // byte of a fact differing from that of the fact before by the byte of the step. Where a script is not understood a `?` is written, which is in
 // no stored output.
+#![tactic(auto)]
 ghost use Rattle.std.specs.Prelude.{◌≡◌, ◌-◌, ◌*◌, ◌<◌};
 ghost use Rattle.scripts.specs.Rooms.{byte_at, with_byte, number_at, inside_of, put_bytes, flat_entry, flat_table, table_after, summed, sum_of};
 ghost use Rattle.scripts.specs.Scripts.{no_bytes, begun_script, is_plain, is_text, text_after, digit_of, with_digits, repeated_facts, with_repeats, call_after, script_after};

@@ -1,4 +1,5 @@
 // The solver: one fact more, and all that follows from it, or a clash.
+#![tactic(auto)]
 ghost use Rattle.std.specs.Prelude.{◌≡◌, ◌≢◌, true, false, List, [], ◌∷◌, ℕ, ◌+◌, ◌-◌, ◌*◌, ◌<◌, ◌≤◌, get_or, length, set};
 ghost use Rattle.kinds.specs.Kinds.{meet_at};
 ghost use Rattle.meaning.specs.Picture.Fact.{same};
@@ -23,7 +24,7 @@ pub struct Solved {
 }
 
 // A fact on nodes: a kind, an equality, or a numbered link.
-#[derive(Drop)]
+#[derive(Clone, Copy)]
 pub enum NodeFact {
     Kind(u8, u8),
     Same(u8, u8),
@@ -133,7 +134,7 @@ fn pushed(x: [u8; 16], y: [u8; 16], left: &mut [u8], right: &mut [u8], size: usi
 }
 
 // Two class numbers, the smaller first.
-#[derive(Drop)]
+#[derive(Clone, Copy)]
 struct Two(u8, u8);
 
 // Two different numbers, the smaller first.
@@ -191,7 +192,7 @@ fn join_two(
 }
 
 // What joining two classes makes: the new number of pairs, or a clash.
-#[derive(Drop)]
+#[derive(Clone, Copy)]
 struct Step {
     ok: bool,
     size: usize,
@@ -433,7 +434,7 @@ fn made_one(
 }
 
 // What taking a fact in place makes: whether it was taken, and from which node on no row names one.
-#[derive(Drop)]
+#[derive(Clone, Copy)]
 pub struct Plain {
     pub yes: bool,
     pub top: u8,

@@ -1,4 +1,5 @@
 // Checks the tables of a script, and writes number and place of the answer.
+#![tactic(auto)]
 ghost use Rattle.std.specs.Prelude.{◌<◌, ◌≤◌};
 
 use replies::Reply;

@@ -129,14 +129,14 @@ module _ {n : ℕ} {table : List ℕ} (E : EarlierHold n table) where
             kinds = F.kinds;
             is_meant = by_test (to_look_at i j k) refl;
             is_broken = F.is_broken;
-            earlier_keep = λ x y z hx hy hz m b. F.earlier-keep x y z hx hy hz refl b;
+            earlier_keep = λ x y z hx hy hz m b. F.earlier_keep x y z hx hy hz refl b;
           }
         where
           by_test : (t : Bool) → to_look_at i j k ≡ t → to_look_at i j k ≡ true
           by_test true e = e
           by_test false e =
               let h = F.kinds in
-              absurd (F.is_broken (silent commuting h.0 h.1 h.2 e (λ d. F.earlier-keep k j i h.2 h.1 h.0 refl (Before.by_first d))))
+              absurd (F.is_broken (silent commuting h.0 h.1 h.2 e (λ d. F.earlier_keep k j i h.2 h.1 h.0 refl (Before.by_first d))))
 
       first_of_all : FirstBroken n (meet_at n table) to_look_at i j k → FirstBroken n (meet_at n table) every_triple i j k
       first_of_all F =
@@ -148,11 +148,11 @@ module _ {n : ℕ} {table : List ℕ} (E : EarlierHold n table) where
           }
         where
           by_test : (x y z : ℕ) → x < n → y < n → z < n → Before x y z i j k → (t : Bool) → to_look_at x y z ≡ t → Grouped commuting x y z
-          by_test x y z hx hy hz b true e = F.earlier-keep x y z hx hy hz e b
+          by_test x y z hx hy hz b true e = F.earlier_keep x y z hx hy hz e b
           by_test x y z hx hy hz b false e = silent commuting hx hy hz e (λ d. mirrored d (to_look_at z y x) refl)
             where
               mirrored : z < x → (t : Bool) → to_look_at z y x ≡ t → Grouped commuting z y x
-              mirrored d true q = F.earlier-keep z y x hz hy hx q (sooner d b)
+              mirrored d true q = F.earlier_keep z y x hz hy hx q (sooner d b)
               mirrored d false q = silent commuting hz hy hx q (λ o. absurd (omega arith))
 
   -- a triple that is passed over changes no reply, where those with an earlier first kind keep their law
@@ -181,7 +181,7 @@ module _ (n : ℕ) (table : List ℕ) (meant : ℕ → ℕ → ℕ → Bool) {i 
   earlier : (x y z : ℕ) → x < n → y < n → z < n → Before x y z i j k → Kept n table (law x y z)
   unfolding law_reply
   earlier x y z hx hy hz b =
-      kept_if n table (Law.group x y z) (meant x y z) (λ e. equal LawBroken (x * n + y) (F.earlier-keep x y z hx hy hz e b))
+      kept_if n table (Law.group x y z) (meant x y z) (λ e. equal LawBroken (x * n + y) (F.earlier_keep x y z hx hy hz e b))
 
   broken_here : first_breach n table (law i j k) ≡ Refused LawBroken (i * n + j)
   unfolding law_reply

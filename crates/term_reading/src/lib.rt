@@ -1,6 +1,7 @@
 // Reading a rig typed as a term. The term reader and the argument reader call each other, at most 16 deep; the arguments of one term follow
 // one another in a loop, so that the stack does not grow with the text. Whether 21, 22 or 12 fits is known at the end of the text alone, since
 // 20 goes before them: so facts go into an array as long as a packet has room for them, and are counted alone from there on.
+#![tactic(auto)]
 ghost use Rattle.std.specs.Prelude.{◌≡◌, ◌≢◌, [], ◌∷◌, true, ◌+◌, ◌-◌, ◌<◌, ◌≤◌, ltb, length};
 ghost use Rattle.replies.specs.declared.Cause.TheVariants.{OutOfRange as OutOfRange·cause};
 ghost use Rattle.replies.specs.Replies.{unless, first_refusal};
@@ -42,7 +43,7 @@ const GREATER: usize = 62;
 const END: usize = 256;
 
 // How far a text is read: the offset where it goes on, how many facts it has said, and where the first number out of range stands.
-#[derive(Drop)]
+#[derive(Clone, Copy)]
 pub struct Front {
     pub at: usize,
     pub facts: usize,
@@ -50,27 +51,27 @@ pub struct Front {
 }
 
 // A number and the offset behind it.
-#[derive(Drop)]
+#[derive(Clone, Copy)]
 pub enum Number {
     Is(usize, usize),
     Missing,
 }
 
 // A number with the signs beside it, or the offset where nothing can continue the text.
-#[derive(Drop)]
+#[derive(Clone, Copy)]
 pub enum Numbered {
     Read(usize, Front),
     Stuck(usize),
 }
 
-#[derive(Drop)]
+#[derive(Clone, Copy)]
 pub enum Step {
     Read(Front),
     Stuck(usize),
 }
 
 // Where a term stands: outermost, or at a link of a joint.
-#[derive(Drop)]
+#[derive(Clone, Copy)]
 pub enum Lead {
     Outermost,
     Argument(usize, usize),

@@ -1,6 +1,7 @@
 // Writing a rig as a term. The joints are visited from the chosen one on, links rising, and each is marked when it is met: where one is met
 // again, or too deep, or one that says something is not met at all, the rig is no tree from there; nor is it where joints are joined. The
 // text is made in an array first, so that all this is known before a byte of the output is written.
+#![tactic(auto)]
 ghost use Rattle.std.specs.Prelude.{◌≡◌, true, [], ◌∷◌, ℕ, ◌+◌, ◌*◌, ◌<◌, ◌≤◌, length};
 ghost use Rattle.decimals.specs.Decimal.{decimal};
 ghost use Rattle.meaning.specs.Form.{unknown, links_from};
@@ -21,7 +22,7 @@ const TEXT_ROOM: usize = 768;
 const BELOW_ROOT: usize = 15;
 
 // What a visit found: whether it is a tree so far, and the place behind the text that it put.
-#[derive(Drop)]
+#[derive(Clone, Copy)]
 struct Visit {
     ok: bool,
     at: usize,
