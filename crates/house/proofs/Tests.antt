@@ -58,10 +58,12 @@ some_of f [] = false
 some_of f (x ∷ xs) = f x || some_of f xs
 
 pub of_all : (f : ℕ → Bool) (xs : List ℕ) → T (all_of f xs) → {x : ℕ} → Memᴰ x xs → T (f x)
+of_all f [] t {x = x} m = elim m [ ]
 of_all f (y ∷ xs) t {x} (Memᴰ.head e) = subst (λ (z : ℕ). T (f z)) (sym e) (and_left (f y) (all_of f xs) t)
 of_all f (y ∷ xs) t (Memᴰ.tail m) = of_all f xs (and_right (f y) (all_of f xs) t) m
 
 pub some_of_lem : (f : ℕ → Bool) (xs : List ℕ) {x : ℕ} → Memᴰ x xs → T (f x) → T (some_of f xs)
+some_of_lem f [] {x = x} m t = elim m [ ]
 some_of_lem f (y ∷ xs) {x} (Memᴰ.head e) t = or_left (f y) (some_of f xs) (subst (λ (z : ℕ). T (f z)) e t)
 some_of_lem f (y ∷ xs) (Memᴰ.tail m) t = or_right (f y) (some_of f xs) (some_of_lem f xs m t)
 

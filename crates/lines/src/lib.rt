@@ -1,5 +1,6 @@
 // One line about a call: a word, then number, place and third.
 #![tactic(auto)]
+
 ghost use Rattle.std.specs.Prelude.{◌≡◌, [], ◌∷◌, ◌+◌, ◌<◌, ◌≤◌, length};
 ghost use Rattle.decimals.specs.Decimal.{longest_number, decimal};
 ghost use Rattle.lines.specs.Text.{line, line_of, blank, room, longest_word, holding, put};

@@ -5,6 +5,7 @@
 //
 // The loops only gather what is off, and the answer is given once, behind them, so that many entries can be handled at once.
 #![tactic(auto)]
+
 ghost use Rattle.std.specs.Prelude.{◌≡◌, true, ℕ, ◌+◌, ◌*◌, ◌<◌, ◌≤◌, length};
 ghost use Rattle.std.specs.Int.Count.{ones};
 ghost use Rattle.kinds.specs.Kinds.{meet_at};

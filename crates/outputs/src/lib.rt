@@ -1,5 +1,6 @@
 // Bytes put into a lent output, and reply 12.
 #![tactic(auto)]
+
 ghost use Rattle.std.specs.Prelude.{◌≡◌, ◌^◌, ◌<◌, length};
 ghost use Rattle.outputs.specs.Output.{output_reply, output_after};
 
