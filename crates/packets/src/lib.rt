@@ -1,5 +1,6 @@
 // Packets: what their bytes say, part by part.
 #![tactic(auto)]
+
 ghost use Rattle.std.specs.Prelude.{◌≡◌, ◌+◌, ◌^◌, ◌<◌, ◌≤◌, length};
 ghost use Rattle.packets.specs.Packet.{byte, L, fact_at, fact_count};
 ghost use Rattle.packets.specs.Decoding.{rig_fact, rule_fact};
