@@ -1,6 +1,7 @@
 // The session's own bytes, the first of a block: the numbers of kinds and of joints, and each joint's class, kind and links. The one place
 // that knows where each stands; nothing here looks behind them.
 #![tactic(auto)]
+
 ghost use Rattle.std.specs.Prelude.{◌≡◌, cond, [], ◌∷◌, ◌<◌, ◌≤◌, length};
 ghost use Rattle.joints.specs.Layout.{session_size, kinds_of, joints_of, classes_of, joint_kinds_of, rows_of, block_form};
 ghost use Rattle.joints.specs.Fresh.{own_classes, any_kinds, no_links, fresh_session};
