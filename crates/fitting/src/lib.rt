@@ -3,6 +3,7 @@
 // Where no joints are joined, one look at whole runs of bytes tells: no loop of it has a branch beside its end, so that many bytes can be
 // handled at once. Its "yes" is proved; its "no" says nothing, and each joint is looked at in turn.
 #![tactic(auto)]
+
 ghost use Rattle.std.specs.Prelude.{◌≡◌, ◌<◌, ◌≤◌, true, length};
 ghost use Rattle.runs.specs.Runs.{each};
 ghost use Rattle.joints.specs.Layout.{session_size, block_form};
