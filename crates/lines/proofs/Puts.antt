@@ -7,7 +7,7 @@ use native.Mathlib.Omega.{arith}
 use native.Mathlib.Numerals.{add-one}
 use native.Mathlib.Nat.{add-zero, add-suc, suc-add, sub-zero, zero-sub, suc-sub-suc}
 use lib.ListN.{length, get_or, take, drop, set, replicate, length-append}
-use lib.Seq.{sets, sets-eq, take-suc, take-length, take-append_seam, length-take-le}
+use lib.Seq.{sets, sets-eq, take-suc, take-length, length-take-le}
 use Rattle.lines.specs.declared.Line.{Line}
 use Rattle.lines.specs.Text.{blank, line_feed, line, longest_word, room, holding, put}
 use Rattle.decimals.specs.Decimal.{digit, longest_number, decimal}

@@ -3,39 +3,41 @@
 use mathlib.Core.Path.{ap}
 use Prim.Native.Nat.{◌≤◌}
 use native.Mathlib.Omega.{arith}
-use borrow.Author.Rules.{rules}
 use Rattle.lines.specs.declared.Line.{Line}
 use Rattle.lines.proofs.Puts.{size_of, number_fits, all_parts}
 use Rattle.lines.proofs.Line.of.Goals as goal
 
-none_said : (c : tie.After-empty) → c.empty.result.size ≤ 0
-none_said c = omega (arith, ap (λ (l : Line). l.size) c.empty.ensures)
-
-word_said : (c : tie.After-with-word) → c.with-word.result.size ≤ 6
-word_said c =
-    let s = c.before.before.before in
-    omega (arith, s.requires, none_said c.before, size_of c.before.empty.result s.args.word.now c.with-word.ensures)
-
-number_said : (c : tie.After-with-number) → c.with_number.result.size ≤ 17
-number_said c =
-    let s = c.before.before.before.before in
-    omega (arith, word_said c.before, number_fits c.before.with-word.result s.args.number c.with_number.ensures)
-
-place_said : (c : tie.After-with-number2) → c.with-number2.result.size ≤ 28
-place_said c =
-    let s = c.before.before.before.before.before in
-    omega (arith, number_said c.before, number_fits c.before.with_number.result s.args.place c.with-number2.ensures)
-
 pub with_number-requires-2 : goal.with_number-requires-2
-with_number-requires-2 c = omega (arith, number_said c)
+with_number-requires-2 c =
+    let none_said : c.empty.result.size ≤ 0 = omega (arith, ap (λ (l : Line). l.size) c.empty.ensures) in
+    let word_said : c.with_word-said.result.size ≤ 6 = let s = c in
+    omega (arith, s.requires, none_said, size_of c.empty.result s.args.word.now c.with_word-said.ensures) in
+    let number_said : c.with_number.result.size ≤ 17 = let s = c in
+    omega (arith, word_said, number_fits c.with_word-said.result s.args.number c.with_number.ensures) in
+    omega (arith, number_said)
 
 pub with_number-told-requires : goal.with_number-told-requires
-with_number-told-requires c = omega (arith, place_said c)
+with_number-told-requires c =
+    let none_said : c.empty.result.size ≤ 0 = omega (arith, ap (λ (l : Line). l.size) c.empty.ensures) in
+    let word_said : c.with_word-said.result.size ≤ 6 = let s = c in
+    omega (arith, s.requires, none_said, size_of c.empty.result s.args.word.now c.with_word-said.ensures) in
+    let number_said : c.with_number.result.size ≤ 17 = let s = c in
+    omega (arith, word_said, number_fits c.with_word-said.result s.args.number c.with_number.ensures) in
+    let place_said : c.with_number-2.result.size ≤ 28 = let s = c in
+    omega (arith, number_said, number_fits c.with_number.result s.args.place c.with_number-2.ensures) in
+    omega (arith, place_said)
 
 pub with_byte-requires : goal.with_byte-requires
 with_byte-requires c =
+    let none_said : c.empty.result.size ≤ 0 = omega (arith, ap (λ (l : Line). l.size) c.empty.ensures) in
+    let word_said : c.with_word-said.result.size ≤ 6 = let s = c in
+    omega (arith, s.requires, none_said, size_of c.empty.result s.args.word.now c.with_word-said.ensures) in
+    let number_said : c.with_number.result.size ≤ 17 = let s = c in
+    omega (arith, word_said, number_fits c.with_word-said.result s.args.number c.with_number.ensures) in
+    let place_said : c.with_number-2.result.size ≤ 28 = let s = c in
+    omega (arith, number_said, number_fits c.with_number.result s.args.place c.with_number-2.ensures) in
     let s = c in
-    omega (arith, place_said c, number_fits c.with_number-2.result s.args.third c.with_number-told.ensures)
+    omega (arith, place_said, number_fits c.with_number-2.result s.args.third c.with_number-told.ensures)
 
 pub returns : goal.returns
 returns c =

@@ -1,13 +1,11 @@
 -- `lines::Line::with_number` meets its contract: the blank and the number are put one behind the other.
 -- Assumes nothing.
-use mathlib.Core.Path.{◌∙◌}
 use mathlib.Core.List.{[], ◌∷◌}
 use native.Mathlib.Omega.{arith}
-use borrow.Author.Rules.{rules}
-use Rattle.decimals.specs.Decimal.{longest_number, decimal}
+use Rattle.decimals.specs.Decimal.{longest_number}
 use Rattle.lines.specs.Text.{blank}
 use Rattle.decimals.proofs.Decimals.{length_digits}
-use Rattle.lines.proofs.Puts.{size_of, put_put}
+use Rattle.lines.proofs.Puts.{size_of}
 use Rattle.lines.proofs.Line.with_number.Goals as goal
 
 pub with_decimal-requires : goal.with_decimal-requires

@@ -1,10 +1,8 @@
 -- `lines::Line::with_word` meets its contract: at i the first i bytes of the word are put.
 -- Assumes nothing.
-use mathlib.Core.Path.{◌≡◌, refl}
-use Prim.Native.Nat.{◌-◌}
-use lib.ListN.{length}
+use mathlib.Core.Path.{refl}
 use borrow.Author.Rules.{rules}
-use Rattle.lines.proofs.Puts.{Putting, none_put, one_fits, byte_put, all_put}
+use Rattle.lines.proofs.Puts.{byte_put}
 use Rattle.lines.proofs.Line.with_word.Goals as goal
 
 pub loop-i-preserved : goal.loop-i-preserved

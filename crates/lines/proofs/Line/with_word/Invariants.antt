@@ -1,10 +1,9 @@
 -- `lines::Line::with_word` meets its contract: at i the first i bytes of the word are put.
 -- Assumes nothing.
-use mathlib.Core.Path.{◌≡◌, refl}
+use mathlib.Core.Path.{◌≡◌}
 use Prim.Native.Nat.{◌-◌}
 use lib.ListN.{length}
-use borrow.Author.Rules.{rules}
-use Rattle.lines.proofs.Puts.{Putting, none_put, one_fits, byte_put, all_put}
+use Rattle.lines.proofs.Puts.{Putting}
 use Rattle.lines.proofs.Line.with_word.Given as goal
 
 abbrev pub invariant-loop-i : goal.invariant-loop-i
