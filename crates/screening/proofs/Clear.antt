@@ -1,7 +1,7 @@
 -- The look at all facts at once: where the bits gathered have no highest bit of a byte, no fact has one, so that each of its bytes is below
 -- the limit that its tag gives it, and the fact fits.
 -- Assumes nothing.
-use mathlib.Core.Path.{◌≡◌, refl, sym, ap, ap₂, ◌∙◌}
+use mathlib.Core.Path.{◌≡◌, refl, sym, ap₂, ◌∙◌}
 use mathlib.Core.Logic.{by_cases}
 use mathlib.Core.Bool.{true, false, ◌&&◌, cond}
 use mathlib.Core.List.{List}

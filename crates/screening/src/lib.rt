@@ -1,5 +1,6 @@
 // Replies 5 to 9, to any bytes.
 #![tactic(auto)]
+
 ghost use Rattle.std.specs.Prelude.{◌≡◌, ◌&&◌, ◌+◌, ◌*◌, ◌≤◌, length};
 ghost use Rattle.packets.specs.Packet.{ties};
 ghost use Rattle.screening.specs.Screening.{length_fits, count_fits, facts_wanted, rule_wanted, tie_fits, fact_fits, first_bad_tie, first_bad_fact, packet_reply};
