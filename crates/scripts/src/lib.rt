@@ -4,9 +4,13 @@
 // byte of a fact differing from that of the fact before by the byte of the step. Where a script is not understood a `?` is written, which is in
 // no stored output.
 #![tactic(auto)]
-ghost use Rattle.std.specs.Prelude.{◌≡◌, ◌-◌, ◌*◌, ◌<◌};
+
+ghost use Rattle.std.specs.Prelude.{◌≡◌, ◌-◌, ◌*◌, ◌<◌, IfOk};
 ghost use Rattle.scripts.specs.Rooms.{byte_at, with_byte, number_at, inside_of, put_bytes, flat_entry, flat_table, table_after, summed, sum_of};
 ghost use Rattle.scripts.specs.Scripts.{no_bytes, begun_script, is_plain, is_text, text_after, digit_of, with_digits, repeated_facts, with_repeats, call_after, script_after};
+
+use std::io;
+use std::io::Write;
 
 // Where in a script one is: in its text, in a comment, before the letter of a call, in its bytes, before the second digit of one, behind the call.
 const TEXT: u8 = 0;
@@ -25,14 +29,14 @@ pub const CALLED: u8 = 5;
 pub type Room = [u8; 5253];
 
 // The bytes of a call, and how many they are.
-#[derive(Drop)]
+#[derive(Clone, Copy)]
 pub struct Bytes {
     pub room: Room,
     pub size: usize,
 }
 
 // A script as far as it is read: where one is, and of a call its letter, its bytes, and the first digit of the next one.
-#[derive(Drop)]
+#[derive(Clone, Copy)]
 pub struct Script {
     pub part: u8,
     pub letter: u8,
@@ -40,19 +44,19 @@ pub struct Script {
     pub bytes: Bytes,
 }
 
-fn write_letter(c: u8) {
-    io::write_all(1, &[c]);
+fn write_letter<W: Write>(out: &mut W, c: u8) -> io::Result<()> {
+    out.write_all(&[c])
 }
 
 // A size or an offset that lies inside a room; 0 for one that does not, and a `?` is written.
-pub fn inside(size: usize) -> usize
-    ensures { (result ≡ inside_of size) × (result < 5253) }
+pub fn inside<W: Write>(out: &mut W, size: usize) -> io::Result<usize>
+    ensures { IfOk result (λ r. (r ≡ inside_of size) × (r < 5253)) }
 {
     if 5252 < size {
-        write_letter(b'?');
-        return 0;
+        write_letter(out, b'?')?;
+        return Ok(0);
     }
-    size
+    Ok(size)
 }
 
 fn wide(x: u8) -> usize
@@ -85,17 +89,17 @@ pub fn number(room: Room, at: usize) -> usize
 }
 
 // The room with the bytes of a call in it: an offset, and what stands there.
-pub fn put(room: Room, bytes: Bytes) -> Room
-    ensures { result ≡ put_bytes room bytes }
+pub fn put<W: Write>(out: &mut W, room: Room, bytes: Bytes) -> io::Result<Room>
+    ensures { IfOk result (λ r. r ≡ put_bytes room bytes) }
 {
     let from = bytes.room;
     let mut next = room;
-    for i in 2..inside(bytes.size) {
-        let at = inside(number(from, 0) + i - 2);
+    for i in 2..inside(out, bytes.size)? {
+        let at = inside(out, number(from, 0) + i - 2)?;
         let more = set(next, at, byte(from, i));
         next = more;
     }
-    next
+    Ok(next)
 }
 
 // An entry of the flat table of n kinds: beside 0, which is under all, and 1, which is above all, no kind is under another.
@@ -130,14 +134,14 @@ fn flat_table(n: usize) -> Room
 }
 
 // The table after a call: `k`, the flat table of so many kinds; `e`, bytes put into the table.
-pub fn next_table(letter: u8, table: Room, bytes: Bytes) -> Room
-    ensures { result ≡ table_after letter table bytes }
+pub fn next_table<W: Write>(out: &mut W, letter: u8, table: Room, bytes: Bytes) -> io::Result<Room>
+    ensures { IfOk result (λ r. r ≡ table_after letter table bytes) }
 {
     let room = bytes.room;
     match letter {
-        b'k' => flat_table(number(room, 0)),
-        b'e' => put(table, bytes),
-        _ => table,
+        b'k' => Ok(flat_table(number(room, 0))),
+        b'e' => put(out, table, bytes),
+        _ => Ok(table),
     }
 }
 
@@ -205,42 +209,42 @@ fn text_after(part: u8, c: u8) -> u8
 }
 
 // What stands for a digit that is none.
-fn no_digit() -> u8
-    ensures { result ≡ 0 }
+fn no_digit<W: Write>(out: &mut W) -> io::Result<u8>
+    ensures { IfOk result (λ r. r ≡ 0) }
 {
-    write_letter(b'?');
-    0
+    write_letter(out, b'?')?;
+    Ok(0)
 }
 
 // The value of a hex digit.
-fn digit(c: u8) -> u8
-    ensures { (result ≡ digit_of c) × (result < 16) }
+fn digit<W: Write>(out: &mut W, c: u8) -> io::Result<u8>
+    ensures { IfOk result (λ r. (r ≡ digit_of c) × (r < 16)) }
 {
     if c < b'0' {
-        return no_digit();
+        return no_digit(out);
     }
     if c <= b'9' {
-        return c - b'0';
+        return Ok(c - b'0');
     }
     if c < b'A' {
-        return no_digit();
+        return no_digit(out);
     }
     if c <= b'F' {
-        return c - b'A' + 10;
+        return Ok(c - b'A' + 10);
     }
-    no_digit()
+    no_digit(out)
 }
 
 // The bytes with one more, of two digits.
-fn with_digits(bytes: Bytes, first: u8, second: u8) -> Bytes
-    ensures { result ≡ with_digits bytes first second }
+fn with_digits<W: Write>(out: &mut W, bytes: Bytes, first: u8, second: u8) -> io::Result<Bytes>
+    ensures { IfOk result (λ r. r ≡ with_digits bytes first second) }
 {
     let room = bytes.room;
-    let size = inside(bytes.size);
-    Bytes {
+    let size = inside(out, bytes.size)?;
+    Ok(Bytes {
         room: set(room, size, 16 * wide(first) + wide(second)),
         size: size + 1,
-    }
+    })
 }
 
 // So many facts, of which the first stands at a place, with its step behind it.
@@ -258,120 +262,121 @@ fn repeated(room: Room, base: usize, count: usize) -> Room
 }
 
 // The bytes with the last nine of them, a fact, its step and a number, made so many facts.
-fn with_repeats(bytes: Bytes) -> Bytes
-    ensures { result ≡ with_repeats bytes }
+fn with_repeats<W: Write>(out: &mut W, bytes: Bytes) -> io::Result<Bytes>
+    ensures { IfOk result (λ r. r ≡ with_repeats bytes) }
 {
     let room = bytes.room;
-    let size = inside(bytes.size);
+    let size = inside(out, bytes.size)?;
     if size < 9 {
-        write_letter(b'?');
-        return bytes;
+        write_letter(out, b'?')?;
+        return Ok(bytes);
     }
     let base = size - 9;
     let count = byte(room, base + 8);
-    Bytes {
+    Ok(Bytes {
         room: repeated(room, base, count),
         size: base + 4 * count,
-    }
+    })
 }
 
 // The script behind a letter among the bytes of a call.
-fn call_after(script: Script, c: u8) -> Script
-    ensures { result ≡ call_after script c }
+fn call_after<W: Write>(out: &mut W, script: Script, c: u8) -> io::Result<Script>
+    ensures { IfOk result (λ r. r ≡ call_after script c) }
 {
     let letter = script.letter;
     let bytes = script.bytes;
     if c == b' ' {
-        return script;
+        return Ok(script);
     }
     if c == b'\n' {
-        return script;
+        return Ok(script);
     }
     if c == b']' {
-        return Script {
+        return Ok(Script {
             part: CALLED,
             letter,
             digit: 0,
             bytes,
-        };
+        });
     }
     if c == b'*' {
-        return Script {
+        return Ok(Script {
             part: BYTES,
             letter,
             digit: 0,
-            bytes: with_repeats(bytes),
-        };
+            bytes: with_repeats(out, bytes)?,
+        });
     }
-    Script {
+    Ok(Script {
         part: SECOND_DIGIT,
         letter,
-        digit: digit(c),
+        digit: digit(out, c)?,
         bytes,
-    }
+    })
 }
 
 // The script behind its next letter.
-pub fn after(script: Script, c: u8) -> Script
-    ensures { result ≡ script_after script c }
+pub fn after<W: Write>(out: &mut W, script: Script, c: u8) -> io::Result<Script>
+    ensures { IfOk result (λ r. r ≡ script_after script c) }
 {
     let part = script.part;
     let letter = script.letter;
     let first = script.digit;
     let bytes = script.bytes;
     if part == LETTER {
-        return Script {
+        return Ok(Script {
             part: BYTES,
             letter: c,
             digit: 0,
             bytes: no_bytes(),
-        };
+        });
     }
     if part == BYTES {
-        return call_after(script, c);
+        return call_after(out, script, c);
     }
     if part == SECOND_DIGIT {
-        return Script {
+        let second = digit(out, c)?;
+        return Ok(Script {
             part: BYTES,
             letter,
             digit: 0,
-            bytes: with_digits(bytes, first, digit(c)),
-        };
+            bytes: with_digits(out, bytes, first, second)?,
+        });
     }
-    Script {
+    Ok(Script {
         part: text_after(part, c),
         letter,
         digit: first,
         bytes,
-    }
+    })
 }
 
-fn write_digit(x: usize)
+fn write_digit<W: Write>(out: &mut W, x: usize) -> io::Result<()>
     requires { x < 16 }
 {
-    write_letter((48 + x + x / 10 * 7) as u8);
+    write_letter(out, (48 + x + x / 10 * 7) as u8)
 }
 
 // The sum with one more byte, which is written where it is to be shown.
-fn with_byte(sum: usize, x: usize, shown: bool) -> usize
+fn with_byte<W: Write>(out: &mut W, sum: usize, x: usize, shown: bool) -> io::Result<usize>
     requires { x < 256 }
-    ensures { result ≡ summed sum x }
+    ensures { IfOk result (λ r. r ≡ summed sum x) }
 {
     if shown {
-        write_letter(b' ');
-        write_digit(x / 16);
-        write_digit(x % 16);
+        write_letter(out, b' ')?;
+        write_digit(out, x / 16)?;
+        write_digit(out, x % 16)?;
     }
-    (sum % 65521 * 31 + x) % 65521
+    Ok((sum % 65521 * 31 + x) % 65521)
 }
 
 // A sum by which so many bytes of a room and their places tell; the bytes are written too where they are to be shown.
-pub fn sum(room: Room, size: usize, shown: bool) -> usize
-    ensures { result ≡ sum_of room size }
+pub fn sum<W: Write>(out: &mut W, room: Room, size: usize, shown: bool) -> io::Result<usize>
+    ensures { IfOk result (λ r. r ≡ sum_of room size) }
 {
     let mut sum = 0;
     for i in 0..size {
-        sum = with_byte(sum, byte(room, i), shown);
+        sum = with_byte(out, sum, byte(room, i), shown)?;
     }
-    sum
+    Ok(sum)
 }

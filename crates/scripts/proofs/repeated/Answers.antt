@@ -6,9 +6,7 @@ use Prim.Native.Nat.{ℕ, suc, ◌+◌, ◌-◌, ◌*◌, ◌%◌, ◌≤◌}
 use native.Mathlib.Omega.{arith}
 use Rattle.scripts.specs.Rooms.{byte_at, with_byte}
 use Rattle.scripts.specs.Scripts.{repeated_facts}
-use borrow.Author.Rules.{rules}
-use Rattle.scripts.proofs.repeated.Statement.{statement}
-use Rattle.scripts.proofs.repeated.Tie as tie
+use Rattle.scripts.proofs.repeated.Goals as goal
 
 none_yet : (room : List ℕ) (base : ℕ) → room ≡ repeated_facts room base 0
 unfolding repeated_facts
@@ -34,45 +32,20 @@ one_more room base {next} {i} h e f g =
     ∙ next-put room base (i - 4)
     ∙ ap (repeated_facts room base) d
 
-abbrev invariant-loop : tie.invariant-loop
-invariant-loop room base count next₀ i₀ i-end next i = (4 ≤ i) × (i-end ≡ 4 * count) × (i - 4 ≤ i-end - 4) × (next ≡ repeated_facts room base (i - 4))
+pub loop-i-init : goal.loop-i-init
+loop-i-init c = (omega arith, refl, omega arith, none_yet _ _)
 
-abbrev decreases-loop : tie.decreases-loop
-decreases-loop room base count next₀ i₀ i-end next i = i-end - i
-
-loop-again : tie.Need-loop-preserved invariant-loop decreases-loop
-loop-again c =
-    let l = c.before.before.before.before.loop in (
+pub loop-i-preserved : goal.loop-i-preserved
+loop-i-preserved c =
+    let l = c.loop-i in (
       omega (arith, l.invariant.0),
       l.invariant.1,
       omega (arith, l.invariant.0),
-      c.set.ensures ∙ one_more _ _ l.invariant.0 l.invariant.3 c.before.before.byte.ensures.0 c.before.byte2.ensures.0,
+      c.set-more.ensures ∙ one_more _ _ l.invariant.0 l.invariant.3 c.byte-step.ensures.0 c.byte.ensures.0,
     )
 
-returns : tie.Need-returns invariant-loop decreases-loop
+pub returns : goal.returns
 returns c =
-    let l = c.before.loop in
-    let e : l.i - 4 ≡ 4 * c.before.before.args.count - 4 = omega (arith, l.invariant.1, l.invariant.2) in
+    let l = c.loop-i in
+    let e : l.i - 4 ≡ 4 * c.args.count - 4 = omega (arith, l.invariant.1, l.invariant.2) in
     l.invariant.3 ∙ ap (repeated_facts _ _) e
-
-pub repeated_spec : {M : Type 1} → statement M
-repeated_spec =
-    tie.close
-    (tie.spec
-    invariant-loop
-    decreases-loop
-    (λ c. search rules)
-    (λ c. (omega arith, omega arith, omega arith, none_yet _ _))
-    (λ c. search rules)
-    (λ c. search rules)
-    (λ c κs. search rules)
-    (λ c. search rules)
-    (λ c. search rules)
-    (λ c. search rules)
-    (λ c κs. search rules)
-    (λ c. search rules)
-    (λ c κs. search rules)
-    (λ c. search rules)
-    (λ c. search rules)
-    loop-again
-    returns)
