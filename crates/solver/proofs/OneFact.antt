@@ -1,19 +1,19 @@
 -- One fact, arm by arm: what the code reads of the nodes and rows, and what it stores, is the fact taken or refuted.
 -- Assumes nothing.
-use mathlib.Core.Path.{◌≡◌, refl, sym, ◌∙◌, ap}
+use mathlib.Core.Path.{◌≡◌, refl, ◌∙◌}
 use mathlib.Core.Logic.{◌≢◌, ◌⊎◌, inl, inr, by_cases, ⊎_elim}
 use mathlib.Core.Bool.{Bool, true, false}
 use mathlib.Core.List.{List, [], ◌∷◌}
 use Prim.Native.Nat.{ℕ, ◌+◌, ◌*◌, ◌<◌, ◌≤◌}
 use native.Mathlib.Omega.{arith}
 use native.Mathlib.Decide.{ℕ_discrete, dec_lt}
-use lib.ListN.{get_or, length, set}
+use lib.ListN.{get_or}
 use Rattle.kinds.specs.Kinds.{meet_at}
 use Rattle.meaning.specs.Picture.{Fact}
 use Rattle.meaning.specs.Picture.Fact.{has_kind, same, leads}
 use Rattle.meaning.specs.Form.{Form, list_form, unknown}
-use Rattle.meaning.specs.Solving.{Smallest, Well, InRange, Taken, Refuted}
-use Rattle.solver.specs.Unpacked.{rows_size, Lent, Named, Ready, Took}
+use Rattle.meaning.specs.Solving.{Well, InRange, Taken, Refuted}
+use Rattle.solver.specs.Unpacked.{Lent, Named, Ready, Took}
 use Rattle.solver.specs.Steps.{renumber, known_of, LinkSet, Unnamed, Joined, JoinedAlone, KindMet, LinkPut}
 use Rattle.solver.proofs.Join.{renumber_hit, renumber_miss, known_first, known_second, class_of}
 use Rattle.solver.proofs.Sets.{kind_taken, kind_refuted, same_already, link_taken, known_taken, known_refuted, end_inside}

@@ -1,5 +1,6 @@
 // The solver: one fact more, and all that follows from it, or a clash.
 #![tactic(auto)]
+
 ghost use Rattle.std.specs.Prelude.{◌≡◌, ◌≢◌, true, false, List, [], ◌∷◌, ℕ, ◌+◌, ◌-◌, ◌*◌, ◌<◌, ◌≤◌, get_or, length, set};
 ghost use Rattle.kinds.specs.Kinds.{meet_at};
 ghost use Rattle.meaning.specs.Picture.Fact.{same};
