@@ -1,5 +1,6 @@
 // The solved form of a session, unpacked for the solver, with room for a rule's joints behind the rig's.
 #![tactic(auto)]
+
 ghost use Rattle.std.specs.Prelude.{◌≡◌, true, ◌≤◌, length, replicate};
 ghost use Rattle.meaning.specs.Asking.{Extends};
 ghost use Rattle.solver.specs.Unpacked.{form_of, rows_size};
