@@ -1,5 +1,6 @@
 // The check of kind tables: n × n bytes, of whose entries nothing is assumed.
 #![tactic(auto)]
+
 ghost use Rattle.std.specs.Prelude.{◌≡◌, [], ◌∷◌, ◌++◌, ◌+◌, ◌*◌, ◌<◌, ◌≤◌};
 ghost use Rattle.replies.specs.declared.Cause.TheVariants.{LawBroken};
 ghost use Rattle.replies.specs.declared.Reply.TheVariants.{Done};
