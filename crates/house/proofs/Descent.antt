@@ -1,20 +1,20 @@
 -- Under by parents is a partial order of the house kinds with 0 below and 1 above all: parents have smaller numbers than their kind.
 -- A climb along the parents decides it.
 -- Assumes nothing.
-use mathlib.Core.Path.{◌≡◌, refl, ◌∙◌, subst, sym, ap}
+use mathlib.Core.Path.{◌≡◌, subst}
 use mathlib.Core.Logic.{by_cases}
-use mathlib.Core.Bool.{Bool, true, false, ◌&&◌, ◌||◌}
+use mathlib.Core.Bool.{Bool, true, ◌&&◌, ◌||◌}
 use mathlib.Core.List.Memᴰ
-use mathlib.Core.List.{List, [], ◌∷◌, Memᴰ}
+use mathlib.Core.List.{List, [], Memᴰ}
 use Prim.Native.Nat.{ℕ, zero, suc, ◌≤◌, ◌<◌}
 use native.Mathlib.Omega.{arith}
 use native.Mathlib.Decide.{dec_lt}
 use lib.Dec.{T, eqb, ltb, ltb→lt, eqb→eq, eqb_refl}
-use lib.ListN.{length, get_or, get_or-eq_default}
+use lib.ListN.{get_or, get_or-eq_default}
 use Rattle.kinds.proofs.Order.{Ordered}
 use Rattle.house.specs.Parents.{parents, UnderByParents}
 use Rattle.house.specs.Parents.UnderByParents.{none_under, itself, by_parent}
-use Rattle.house.proofs.Tests.{and_left, and_right, or_left, or_right, or_cases, all_below, below, all_of, of_all, some_of, some_of_lem, Some, of_some}
+use Rattle.house.proofs.Tests.{and_left, and_right, or_left, or_right, or_cases, below, all_of, of_all, some_of, some_of_lem, of_some}
 
 parent_lower : (s : ℕ) {p : ℕ} → Memᴰ p (get_or parents s []) → (0 < p) × (p < s)
 parent_lower s {p} m =

@@ -1,5 +1,6 @@
 // The house kinds: their direct parents and their meet table, and the check of tables, which knows that table by its bytes.
 #![tactic(auto)]
+
 ghost use Rattle.std.specs.Prelude.{◌≡◌, ◌<◌};
 ghost use Rattle.kinds.specs.Sizes.{Sized};
 ghost use Rattle.tables.specs.Check.{table_reply};
