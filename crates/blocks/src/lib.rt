@@ -1,5 +1,6 @@
 // Session blocks: the session's own bytes come first (crate `joints`), the kind table's room behind them (`table`).
 #![tactic(auto)]
+
 ghost use Rattle.std.specs.Prelude.{◌≡◌, ◌≤◌, eqb, length};
 ghost use Rattle.kinds.specs.Sizes.{Sized};
 ghost use Rattle.joints.specs.Layout.{kinds_of};
