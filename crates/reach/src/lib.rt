@@ -1,5 +1,6 @@
 // Reply 10: which of a rule's joints are reached, and the smallest that is not. A set of joints is a number of 32 bits, and bit j is joint j's.
 #![tactic(auto)]
+
 ghost use Rattle.std.specs.Prelude.{◌≡◌, ◌+◌, ◌<◌, ◌≤◌, eqb, length, replicate};
 ghost use Rattle.packets.specs.Packet.{fact_count};
 ghost use Rattle.packets.specs.Facts.{rule_of};

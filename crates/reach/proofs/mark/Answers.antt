@@ -9,21 +9,11 @@ use lib.Pow.{shl_exact}
 use borrow.Author.Rules.{rules}
 use Rattle.reach.specs.Marking.{WithMark}
 use Rattle.reach.proofs.Marking.{with_bit}
-use Rattle.reach.proofs.mark.Statement.{statement}
-use Rattle.reach.proofs.mark.Tie as tie
+use Rattle.reach.proofs.mark.Goals as goal
 
-cast-result : tie.Need-overflow-cast-result
-cast-result c = search rules
-
-shl-result : tie.Need-overflow-shl-result
-shl-result c = search rules
-
-returns : tie.Need-returns
+pub returns : goal.returns
 returns c =
     let a = c.args in
     let shifted = shl_exact {a = 1} 1 a.j 32 (omega arith) (omega (arith, c.requires)) ∙ one-mul (2 ^ a.j) in
     subst (λ (x : ℕ). WithMark a.marks a.j (bit_or a.marks x)) (sym shifted)
     (with_bit a.marks a.j (search rules) c.requires)
-
-pub mark_spec : {M : Type 1} → statement M
-mark_spec = tie.close (tie.spec cast-result shl-result returns)
