@@ -1,9 +1,11 @@
 -- `screening::packet_reply` meets its contract: each test has the outcome of the definition's, in its order.
 -- Assumes nothing.
 use mathlib.Core.Path.{◌≡◌, sym, ap₂, ◌∙◌}
+use mathlib.Core.Logic.{◌≢◌}
 use mathlib.Core.Bool.{true}
 use mathlib.Core.List.{List, [], ◌∷◌}
 use Prim.Native.Nat.{ℕ}
+use native.Mathlib.Omega.{arith}
 use lib.Dec.{eqb}
 use borrow.Author.Tests.{eq-eqb, ne_eqb}
 use Rattle.replies.specs.declared.Cause.TheVariants.{BadVersion, BadHeader, BadCount}
@@ -66,25 +68,29 @@ returns-then-not-length_fits c =
 pub returns-then-byte_at-ne1 : goal.returns-then-byte_at-ne1
 returns-then-byte_at-ne1 c =
     let l1 = past_1 c.args.w c.args.n c.args.v c.args.packet.now (sym c.length_fits.ensures ∙ c.if-not-length_fits.false) in
-    sym (l1 ∙ test_here _ _ _ _ _ (ne_eqb _ _ (λ e. c.if-byte_at-ne1.true (c.byte_at.ensures.0 ∙ e))))
+    let version : byte c.args.packet.now 2 ≢ 1 = λ e. omega (arith, c.byte_at.ensures.0, e) in
+    sym (l1 ∙ test_here _ _ _ _ _ (ne_eqb _ _ version))
 
 pub returns-then-byte_at-w : goal.returns-then-byte_at-w
 returns-then-byte_at-w c =
     let l1 = past_1 c.args.w c.args.n c.args.v c.args.packet.now (sym c.length_fits.ensures ∙ c.if-not-length_fits.false) in
-    let l2 = past_2 c.args.w c.args.n c.args.v c.args.packet.now l1 (eq-eqb _ _ (sym c.byte_at.ensures.0 ∙ c.if-byte_at-ne1.false)) in
+    let version : byte c.args.packet.now 2 ≡ 1 = omega arith in
+    let l2 = past_2 c.args.w c.args.n c.args.v c.args.packet.now l1 (eq-eqb _ _ version) in
     sym (l2 ∙ test_here _ _ _ _ _ (ne_eqb _ _ (λ e. c.if-byte_at-w.true (c.byte_at-2.ensures.0 ∙ e))))
 
 pub returns-then-not-in_range : goal.returns-then-not-in_range
 returns-then-not-in_range c =
     let l1 = past_1 c.args.w c.args.n c.args.v c.args.packet.now (sym c.length_fits.ensures ∙ c.if-not-length_fits.false) in
-    let l2 = past_2 c.args.w c.args.n c.args.v c.args.packet.now l1 (eq-eqb _ _ (sym c.byte_at.ensures.0 ∙ c.if-byte_at-ne1.false)) in
+    let version : byte c.args.packet.now 2 ≡ 1 = omega arith in
+    let l2 = past_2 c.args.w c.args.n c.args.v c.args.packet.now l1 (eq-eqb _ _ version) in
     let l3 = past_3 c.args.w c.args.n c.args.v c.args.packet.now l2 (eq-eqb _ _ (sym c.byte_at-2.ensures.0 ∙ c.if-byte_at-w.false)) in
     sym (l3 ∙ test_here _ _ _ _ _ (rw c.byte_at-3.ensures.0 at (sym c.in_range.ensures ∙ c.if-not-in_range.true)))
 
 pub returns-then-not-in_range-2 : goal.returns-then-not-in_range-2
 returns-then-not-in_range-2 c =
     let l1 = past_1 c.args.w c.args.n c.args.v c.args.packet.now (sym c.length_fits.ensures ∙ c.if-not-length_fits.false) in
-    let l2 = past_2 c.args.w c.args.n c.args.v c.args.packet.now l1 (eq-eqb _ _ (sym c.byte_at.ensures.0 ∙ c.if-byte_at-ne1.false)) in
+    let version : byte c.args.packet.now 2 ≡ 1 = omega arith in
+    let l2 = past_2 c.args.w c.args.n c.args.v c.args.packet.now l1 (eq-eqb _ _ version) in
     let l3 = past_3 c.args.w c.args.n c.args.v c.args.packet.now l2 (eq-eqb _ _ (sym c.byte_at-2.ensures.0 ∙ c.if-byte_at-w.false)) in
     let l4 = past_4 c.args.w c.args.n c.args.v c.args.packet.now l3 (rw c.byte_at-3.ensures.0 at (sym c.in_range.ensures ∙ c.if-not-in_range.false)) in
     sym (l4 ∙ test_here _ _ _ _ _ (rw c.byte_at-4.ensures.0 at (sym c.in_range-2.ensures ∙ c.if-not-in_range-2.true)))
@@ -92,7 +98,8 @@ returns-then-not-in_range-2 c =
 pub returns-then-not-count_fits : goal.returns-then-not-count_fits
 returns-then-not-count_fits c =
     let l1 = past_1 c.args.w c.args.n c.args.v c.args.packet.now (sym c.length_fits.ensures ∙ c.if-not-length_fits.false) in
-    let l2 = past_2 c.args.w c.args.n c.args.v c.args.packet.now l1 (eq-eqb _ _ (sym c.byte_at.ensures.0 ∙ c.if-byte_at-ne1.false)) in
+    let version : byte c.args.packet.now 2 ≡ 1 = omega arith in
+    let l2 = past_2 c.args.w c.args.n c.args.v c.args.packet.now l1 (eq-eqb _ _ version) in
     let l3 = past_3 c.args.w c.args.n c.args.v c.args.packet.now l2 (eq-eqb _ _ (sym c.byte_at-2.ensures.0 ∙ c.if-byte_at-w.false)) in
     let l4 = past_4 c.args.w c.args.n c.args.v c.args.packet.now l3 (rw c.byte_at-3.ensures.0 at (sym c.in_range.ensures ∙ c.if-not-in_range.false)) in
     let l5 = past_5 c.args.w c.args.n c.args.v c.args.packet.now l4 (rw c.byte_at-4.ensures.0 at (sym c.in_range-2.ensures ∙ c.if-not-in_range-2.false)) in
@@ -101,7 +108,8 @@ returns-then-not-count_fits c =
 pub returns : goal.returns
 returns c =
     let l1 = past_1 c.args.w c.args.n c.args.v c.args.packet.now (sym c.length_fits.ensures ∙ c.if-not-length_fits.false) in
-    let l2 = past_2 c.args.w c.args.n c.args.v c.args.packet.now l1 (eq-eqb _ _ (sym c.byte_at.ensures.0 ∙ c.if-byte_at-ne1.false)) in
+    let version : byte c.args.packet.now 2 ≡ 1 = omega arith in
+    let l2 = past_2 c.args.w c.args.n c.args.v c.args.packet.now l1 (eq-eqb _ _ version) in
     let l3 = past_3 c.args.w c.args.n c.args.v c.args.packet.now l2 (eq-eqb _ _ (sym c.byte_at-2.ensures.0 ∙ c.if-byte_at-w.false)) in
     let l4 = past_4 c.args.w c.args.n c.args.v c.args.packet.now l3 (rw c.byte_at-3.ensures.0 at (sym c.in_range.ensures ∙ c.if-not-in_range.false)) in
     let l5 = past_5 c.args.w c.args.n c.args.v c.args.packet.now l4 (rw c.byte_at-4.ensures.0 at (sym c.in_range-2.ensures ∙ c.if-not-in_range-2.false)) in
