@@ -3,7 +3,7 @@
 use mathlib.Core.Path.{sym, ap, ◌∙◌}
 use native.Mathlib.Omega.{arith}
 use Rattle.meaning.specs.Rule.{rule_joint}
-use Rattle.packets.specs.Factc.{fact_of}
+use Rattle.packets.specs.Facts.{fact_of}
 use Rattle.packets.specs.Decoding.{rule_fact}
 use Rattle.screening.proofs.Screening.{fact_inside}
 use Rattle.reach.proofs.RulePacket.{rule_well, rule_link}
