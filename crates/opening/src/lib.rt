@@ -1,5 +1,6 @@
 // Opening a session over a lent block.
 #![tactic(auto)]
+
 ghost use Rattle.std.specs.Prelude.{◌≡◌};
 ghost use Rattle.opening.specs.Open.{sizes_fit, open_reply, open_block};
 

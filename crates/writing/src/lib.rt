@@ -1,6 +1,7 @@
 // Writing a block's solved form. An output that has room for any form gets it straight. For a shorter one the form is made in an array
 // first, so that its length is known before a byte of the output is written.
 #![tactic(auto)]
+
 ghost use Rattle.std.specs.Prelude.{◌≡◌, true, [], ◌∷◌, ◌+◌, ◌*◌, ◌/◌, ◌%◌, ◌<◌, ◌≤◌, length, drop};
 ghost use Rattle.meaning.specs.Form.{links_from, facts_at, facts_from};
 ghost use Rattle.joints.specs.Layout.{session_size, joints_of, block_form};
