@@ -1,5 +1,6 @@
 // Taking a packet of facts: all of them or none.
 #![tactic(auto)]
+
 ghost use Rattle.std.specs.Prelude.{◌≡◌, true, cond, map, ◌+◌, ◌*◌, ◌≤◌, length, replicate};
 ghost use Rattle.kinds.specs.Kinds.{meet_at};
 ghost use Rattle.meaning.specs.Picture.{rename};
@@ -20,7 +21,7 @@ use solver::{Fold, NodeFact, Solved};
 
 // What the solver makes of a packet: whether it clashes, how many facts were taken before that, and where it does not clash, the number of joins
 // and the next form.
-#[derive(Clone, Copy)]
+#[derive(Drop)]
 pub struct Outcome {
     pub clash: bool,
     pub at: usize,
