@@ -15,56 +15,49 @@ ghost use Rattle.vornulica.specs.Host.{HostNumber};
 use replies::{Cause, Reply};
 
 // Opens a session of v joints with a table of n kinds over the block.
-#[unsafe(no_mangle)]
-pub extern "C" fn rig_open(n: u64, v: u64, table: &[u8], block: &mut [u8]) -> u64
+pub fn rig_open(n: u64, v: u64, table: &[u8], block: &mut [u8]) -> u64
     ensures { (result ≡ packed (open_reply n v table.now block.old)) × (block.new ≡ open_block n v table.now block.old) }
 {
     replies::to_host(opening::open(n, v, table, block))
 }
 
 // Takes all facts of the packet into the session, or none.
-#[unsafe(no_mangle)]
-pub extern "C" fn rig_take(block: &mut [u8], packet: &[u8]) -> u64
+pub fn rig_take(block: &mut [u8], packet: &[u8]) -> u64
     ensures { HostNumber (λ reply. Take block.old packet.now reply block.new) result }
 {
     replies::to_host(taking::take(block, packet))
 }
 
 // Asks a rule: the third number is the verdict.
-#[unsafe(no_mangle)]
-pub extern "C" fn rig_ask(block: &[u8], packet: &[u8]) -> u64
+pub fn rig_ask(block: &[u8], packet: &[u8]) -> u64
     ensures { HostNumber (λ reply. Ask block.now packet.now reply) result }
 {
     replies::to_host(asking::ask(block, packet))
 }
 
 // Writes the solved form as a facts packet.
-#[unsafe(no_mangle)]
-pub extern "C" fn rig_write(block: &[u8], out: &mut [u8]) -> u64
+pub fn rig_write(block: &[u8], out: &mut [u8]) -> u64
     ensures { (result ≡ packed (write_reply block.now out.old)) × (out.new ≡ written_output block.now out.old) }
 {
     replies::to_host(writing::write(block, out))
 }
 
 // Reads a rig typed as a term into a facts packet for the session.
-#[unsafe(no_mangle)]
-pub extern "C" fn rig_read_term(block: &[u8], text: &[u8], out: &mut [u8]) -> u64
+pub fn rig_read_term(block: &[u8], text: &[u8], out: &mut [u8]) -> u64
     ensures { HostNumber (λ reply. ReadTerm block.now text.now out.old reply out.new) result }
 {
     replies::to_host(term_reading::read(block, text, out))
 }
 
 // Writes the rig as a term from a chosen joint.
-#[unsafe(no_mangle)]
-pub extern "C" fn rig_write_term(block: &[u8], joint: u64, out: &mut [u8]) -> u64
+pub fn rig_write_term(block: &[u8], joint: u64, out: &mut [u8]) -> u64
     ensures { HostNumber (λ reply. WriteTerm block.now joint out.old reply out.new) result }
 {
     replies::to_host(term_writing::write(block, joint, out))
 }
 
 // Writes the house table, 33 × 33 bytes.
-#[unsafe(no_mangle)]
-pub extern "C" fn rig_house(table: &mut [u8]) -> u64
+pub fn rig_house(table: &mut [u8]) -> u64
     ensures { (result ≡ packed (house_reply table.old)) × (table.new ≡ house_buffer table.old) }
 {
     if table.len() != 1089 {
