@@ -1,4 +1,5 @@
 pub mod Scan
+pub mod OneKind
 pub mod Lawfulness
 pub mod Triples
 pub mod LookedAt

@@ -42,6 +42,7 @@ fn first_entry(table: &[u8], n: usize) -> Reply
 }
 
 // The first law of i alone that is broken.
+#[tactic(auto, using(crate::proofs::OneKind::self_broken, crate::proofs::OneKind::none_broken, crate::proofs::OneKind::any_broken, crate::proofs::OneKind::one_kept))]
 fn breach_at(table: &[u8], n: usize, i: usize) -> Reply
     requires fact_1 { Sized n table.now }
     requires fact_2 { AllKinds n table.now }
