@@ -1,7 +1,7 @@
 -- The house kinds with their direct parents, and when one kind is under another by them.
 -- Assumes nothing.
 use mathlib.Core.List.{List, [], ◌∷◌, Memᴰ}
-use Rattle.std.specs.Prelude.{ℕ, ◌<◌, get_or}
+use Rattle.std.specs.Prelude.{ℕ, get_or}
 
 -- row k has the direct parents of kind k
 abbrev pub parents : List (List ℕ)
