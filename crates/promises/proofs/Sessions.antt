@@ -179,7 +179,7 @@ without_first meet P σ false fs gs a = all_right meet P σ fs gs a
 
 -- and where the facts taken hold, so do those of every packet that was taken
 pub packet_holds :
-    {n : ℕ} (meet : ℕ → ℕ → ℕ) (P : Picture n) (σ : RigJoint → ℕ) {sent : List Sent} {s : Sent} → Memᴰ s sent →
+    {n : ℕ} (meet : ℕ → ℕ → ℕ) (P : Picture n) (σ : RigJoint → ℕ) {s : Sent} {sent : List Sent} → Memᴰ s sent →
     refuses s.reply ≡ false → All meet P σ (facts_taken sent) → All meet P σ (rig_facts s.packet)
 unfolding facts_taken
 packet_holds meet P σ {s = s} (Memᴰ.head {x} {xs} e) taken a =
