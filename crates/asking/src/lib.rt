@@ -1,6 +1,7 @@
 // Asking a rule: its joints are nodes behind the rig's, and its ties and facts are taken there. A clash rules it out; where nothing
 // new is said of the rig, and each of its joints is one with a rig joint, it applies; otherwise it waits.
 #![tactic(auto)]
+
 ghost use Rattle.std.specs.Prelude.{◌≡◌, true, false, map, ℕ, ◌+◌, ◌*◌, ◌<◌, ◌≤◌, length, get_or};
 ghost use Rattle.replies.specs.declared.Reply.TheVariants.{Done};
 ghost use Rattle.kinds.specs.Kinds.{meet_at};
@@ -194,7 +195,15 @@ fn settled(session: &[u8], end: Solved, rows: &[u8], v: usize, k: usize) -> bool
     ensures { (result ≡ true → Settled v k (block_form session.now) (form_of end rows.now))
         × (result ≡ false → Settled v k (block_form session.now) (form_of end rows.now) → ⊥) }
 {
-    if !same_rig(session, end, rows, v) {
+    let class = end.class;
+    let kind = end.kind;
+    let rig = Solved {
+        class,
+        kind,
+        top: end.top,
+        ok: end.ok,
+    };
+    if !same_rig(session, rig, rows, v) {
         return false;
     }
     all_inside(end, v, k)
