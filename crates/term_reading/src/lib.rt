@@ -2,6 +2,7 @@
 // one another in a loop, so that the stack does not grow with the text. Whether 21, 22 or 12 fits is known at the end of the text alone, since
 // 20 goes before them: so facts go into an array as long as a packet has room for them, and are counted alone from there on.
 #![tactic(auto)]
+
 ghost use Rattle.std.specs.Prelude.{◌≡◌, ◌≢◌, [], ◌∷◌, true, ◌+◌, ◌-◌, ◌<◌, ◌≤◌, ltb, length};
 ghost use Rattle.replies.specs.declared.Cause.TheVariants.{OutOfRange as OutOfRange·cause};
 ghost use Rattle.replies.specs.Replies.{unless, first_refusal};
@@ -282,7 +283,7 @@ fn passed(f: Front) -> Front
 }
 
 // A term that so many terms are around.
-#[cycle(read_arguments_read_term)]
+#[cycle(terms)]
 fn read_term(
     text: &[u8],
     from: Front,
@@ -312,7 +313,7 @@ fn read_term(
 }
 
 // The arguments of a joint, and the bracket that closes them.
-#[cycle(read_arguments_read_term)]
+#[cycle(terms)]
 fn read_arguments(
     text: &[u8],
     from: Front,
