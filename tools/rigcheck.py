@@ -45,7 +45,7 @@ def build():
     """Has rt see to it that the program is that of the sources."""
     if not os.path.exists(PROGRAM):
         print("rigcheck: building the program; from nothing its proof takes some minutes", file=sys.stderr)
-    building.run("building the program", ["tools/build", "check", "rigcheck"])
+    building.run("building the program", ["tools/build", "program", "rigcheck"])
 
 
 def run(data):

@@ -3,11 +3,13 @@
 1. A path that is not there: in backticks whatever has a '/' or the suffix of a file; elsewhere whatever begins with a
    folder of the project, ends in such a suffix or has two '/'. It may be a folder or a pattern, as crates/*/specs, and
    may start in the folder of a crate, as specs/Lib.antt. A file's name alone stands for one in the folder of the path
-   before it, beside the page or at the root. What is under target/ is made by the build and not looked at.
+   before it, beside the page or at the root. What is under target/ or in the out/ of a crate is made by the build and
+   not looked at.
 2. A name in backticks that is defined nowhere: no definition, theorem, record, field, constructor or module of an
    .antt file; no fn, struct, enum, variant, const, type or module of an .rt file, which may stand behind its crate,
-   module or owner, as session::open; no name of a C or C++ file; no crate, edit, test or tool; and none of the words
-   that tests/docs/words.txt allows. What has a blank in it is code and no name.
+   module or owner, as session::open; no module of a crate and no definition in one, as Rattle.kinds.specs.Laws; no name
+   of a C or C++ file; no crate, edit, test or tool; and none of the words that tests/docs/words.txt allows. What has a
+   blank in it is code and no name.
 3. A name that is defined elsewhere than a page says, by `name` (PATH) or `name` in PATH. Several names may stand there,
    and several paths, with commas and linking words between them.
 4. In a table: under the heading "folder" one that is not there; under "crate" no crate; under "run" a name in quotes
@@ -214,7 +216,7 @@ class Page:
                 self._complain(token.at, f"`{text}` is defined nowhere")
 
     def _look_up(self, token, path, folder):
-        if path.split("/")[0] == "target":
+        if self.project.is_made(path):
             return
         if "/" in path:
             token.paths = self.project.matching(path)

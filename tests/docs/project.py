@@ -5,6 +5,7 @@ import os
 import re
 
 PARTS_OF_A_CRATE = {"specs", "proofs", "src", "must-fail"}
+MADE = re.compile(r"target(/|$)|crates/[^/]+/out(/|$)")  # by the build, and there or not
 
 ANTT_TYPED = re.compile(r"\s*(?:(?:pub|abbrev|unfoldable|opaque|private)\s+)*([^\s(){}.,;:=λ]+)\s+:(?:\s|$)")
 ANTT_DECLARED = re.compile(r"\s*(?:pub\s+)?(?:record|data|module|mod)\s+([^\s(){}:]+)")
@@ -76,9 +77,11 @@ class Project:
     def _walk(self):
         for folder, folders, files in os.walk(self.root):
             inside = os.path.relpath(folder, self.root)
-            if inside == ".":
-                folders[:] = [name for name in folders if name not in (".git", "target")]
+            folders[:] = [name for name in folders if name != ".git" and not self.is_made(os.path.join(inside, name))]
             yield from (os.path.normpath(os.path.join(inside, name)) for name in files)
+
+    def is_made(self, path):
+        return MADE.match(os.path.normpath(path)) is not None
 
     def text(self, path):
         with open(os.path.join(self.root, path), encoding="utf-8", errors="replace") as file:
@@ -108,10 +111,17 @@ class Project:
             self._define(stem, path)  # an edit, a test or a tool goes by the name of its file
 
     def is_defined(self, name):
+        if name.startswith("Rattle."):
+            return self._is_in_a_module(name.split(".")[1:])
         parts = tuple(name.split("::"))
         if len(parts) > 1:
             return any(known[-len(parts) :] == parts for known in self.qualified)
         return name in self.defined or name in self.crates
+
+    def _is_in_a_module(self, parts):
+        """Whether there is such a module, as Rattle.CRATE.specs.MODULE, or in one such a definition."""
+        module, outer = ("crates/" + "/".join(names) + ".antt" for names in (parts, parts[:-1]))
+        return module in self.files or outer in self.defined.get(parts[-1], ())
 
     def is_defined_in(self, name, path):
         """In that file, or in a file of that folder."""
@@ -120,11 +130,11 @@ class Project:
 
     def matching(self, path):
         """The files and folders that a path stands for, from the root or from the folder of a crate. A part in
-        capitals stands for any name, as in proofs/FUNCTION/Proof.antt."""
+        capitals stands for any name, as in proofs/FUNCTION/Answers.antt."""
         parts = ["*" if re.fullmatch(r"[A-Z]{2,}", part) else part for part in path.rstrip("/").split("/")]
         tried = [parts] + ([["crates", "*", *parts]] if parts[0] in PARTS_OF_A_CRATE else [])
         found = [name for pattern in tried for name in glob.glob(os.path.join(self.root, *pattern))]
-        return [os.path.relpath(name, self.root) for name in found]
+        return [path for path in (os.path.relpath(name, self.root) for name in found) if not self.is_made(path)]
 
     def called(self, name):
         return [path for path in self.files if path.split("/")[-1] == name]
