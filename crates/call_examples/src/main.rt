@@ -1,9 +1,12 @@
 // Makes the calls of a script. The answer to a call is number, place and third, whether the block is the same as before, and the output.
 #![tactic(auto)]
-ghost use Rattle.std.specs.Prelude.{◌<◌};
+
+ghost use Rattle.std.specs.Prelude.{◌<◌, IfOk};
 
 use replies::Reply;
 use scripts::{Bytes, Room};
+use std::io;
+use std::io::{Read, Write};
 
 // The answer to a call, with what it could change and what it only read as they are then.
 #[derive(Clone, Copy)]
@@ -49,10 +52,10 @@ fn answer_to(
 }
 
 // How many bytes of the block are lent: the number behind it and one byte more.
-fn lent_of(block: Room) -> usize
-    ensures { result < 5253 }
+fn lent_of<W: Write>(out: &mut W, block: Room) -> io::Result<usize>
+    ensures { IfOk result (λ r. r < 5253) }
 {
-    scripts::inside(scripts::number(block, 5251))
+    scripts::inside(out, scripts::number(block, 5251))
 }
 
 // A number whose high half stands six places behind it.
@@ -62,151 +65,197 @@ fn long_number(room: Room, at: usize) -> u64
     scripts::number(room, at) as u64 + 4294967296 * scripts::number(room, at + 6) as u64
 }
 
-fn open(block: Room, table: Room, room: Room) -> Answer {
+fn open<W: Write>(out: &mut W, block: Room, table: Room, room: Room) -> io::Result<Answer> {
     let n = long_number(room, 0);
     let v = long_number(room, 2);
-    let size = scripts::inside(scripts::number(room, 4));
-    answer_to(b'o', n, v, block, lent_of(block), table, size)
+    let size = scripts::inside(out, scripts::number(room, 4))?;
+    let lent = lent_of(out, block)?;
+    Ok(answer_to(b'o', n, v, block, lent, table, size))
 }
 
-fn take_or_ask(letter: u8, block: Room, packet: Room, size: usize) -> Answer
+fn take_or_ask<W: Write>(
+    out: &mut W,
+    letter: u8,
+    block: Room,
+    packet: Room,
+    size: usize,
+) -> io::Result<Answer>
     requires { size < 5253 }
 {
-    answer_to(letter, 0, 0, block, lent_of(block), packet, size)
+    let lent = lent_of(out, block)?;
+    Ok(answer_to(letter, 0, 0, block, lent, packet, size))
 }
 
-fn write(block: Room, size: usize) -> Answer
+fn write<W: Write>(out: &mut W, block: Room, size: usize) -> io::Result<Answer>
     requires { size < 5253 }
 {
-    answer_to(b'w', 0, 0, [0xEEu8; 5253], size, block, lent_of(block))
+    let lent = lent_of(out, block)?;
+    Ok(answer_to(b'w', 0, 0, [0xEEu8; 5253], size, block, lent))
 }
 
-fn write_number(x: u64) {
-    io::print_decimal(1, x);
-    io::write_all(1, b" ");
+fn write_number<W: Write>(out: &mut W, x: u64) -> io::Result<()> {
+    write!(out, "{x} ")
 }
 
-fn write_reply(reply: Reply) {
-    write_number(replies::number_of(reply) as u64);
-    write_number(replies::place_of(reply) as u64);
-    write_number(replies::third_of(reply) as u64);
+fn write_reply<W: Write>(out: &mut W, reply: Reply) -> io::Result<()> {
+    write_number(out, replies::number_of(reply) as u64)?;
+    write_number(out, replies::place_of(reply) as u64)?;
+    write_number(out, replies::third_of(reply) as u64)
 }
 
-fn write_same(before: Room, after: Room) {
-    if check::same(&before, &after) {
-        io::write_all(1, b"same");
-        return;
+fn write_same<W: Write>(out: &mut W, before: Room, after: Room) -> io::Result<()> {
+    if before == after {
+        return out.write_all(b"same");
     }
-    io::write_all(1, b"changed");
+    out.write_all(b"changed")
 }
 
 // Tells the answer to a call that may change the block; the block then.
-fn tell(answer: Answer, before: Room) -> Room {
+fn tell<W: Write>(out: &mut W, answer: Answer, before: Room) -> io::Result<Room> {
     let reply = answer.reply;
     let after = answer.lent;
-    write_reply(reply);
-    write_same(before, after);
-    after
+    write_reply(out, reply)?;
+    write_same(out, before, after)?;
+    Ok(after)
 }
 
 // Tells the answer to writing, with all bytes of the output or only a sum.
-fn tell_output(block: Room, size: usize, shown: bool)
+fn tell_output<W: Write>(out: &mut W, block: Room, size: usize, shown: bool) -> io::Result<()>
     requires { size < 5253 }
 {
-    let answer = write(block, size);
+    let answer = write(out, block, size)?;
     let reply = answer.reply;
     let output = answer.lent;
     let after = answer.read;
-    write_reply(reply);
-    write_same(block, after);
-    let sum = scripts::sum(output, size, shown);
+    write_reply(out, reply)?;
+    write_same(out, block, after)?;
+    let sum = scripts::sum(out, output, size, shown)?;
     if shown {
-        return;
+        return Ok(());
     }
-    io::write_all(1, b" ");
-    io::print_decimal(1, sum as u64);
+    write!(out, " {sum}")
 }
 
 // Tells how a fresh session takes the solved form, which has to give the same block.
-fn tell_fresh(block: Room, table: Room, room: Room) {
-    let written = write(block, 4358);
-    let opened = open(block, table, room);
+fn tell_fresh<W: Write>(out: &mut W, block: Room, table: Room, room: Room) -> io::Result<()> {
+    let written = write(out, block, 4358)?;
+    let opened = open(out, block, table, room)?;
     let form = written.lent;
     let fresh = opened.lent;
-    let size = scripts::inside(scripts::number(form, 0) + 2);
-    tell(take_or_ask(b't', fresh, form, size), block);
+    let size = scripts::inside(out, scripts::number(form, 0) + 2)?;
+    let taken = take_or_ask(out, b't', fresh, form, size)?;
+    tell(out, taken, block)?;
+    Ok(())
 }
 
 // The calls that leave the block as it is.
-fn tell_other(letter: u8, block: Room, table: Room, room: Room) {
-    let size = scripts::inside(scripts::number(room, 0));
+fn tell_other<W: Write>(
+    out: &mut W,
+    letter: u8,
+    block: Room,
+    table: Room,
+    room: Room,
+) -> io::Result<()> {
+    let size = scripts::inside(out, scripts::number(room, 0))?;
     match letter {
-        b'w' => tell_output(block, size, true),
-        b's' => tell_output(block, size, false),
-        b'f' => tell_fresh(block, table, room),
-        b'h' | b'k' | b'e' => {}
-        _ => {
-            io::write_all(1, b"?");
-        }
+        b'w' => tell_output(out, block, size, true),
+        b's' => tell_output(out, block, size, false),
+        b'f' => tell_fresh(out, block, table, room),
+        b'h' | b'k' | b'e' => Ok(()),
+        _ => out.write_all(b"?"),
     }
 }
 
+// Tells the answer to open; the block then.
+fn tell_open<W: Write>(out: &mut W, block: Room, table: Room, room: Room) -> io::Result<Room> {
+    let answer = open(out, block, table, room)?;
+    tell(out, answer, block)
+}
+
+// Tells the answer to take or ask; the block then.
+fn tell_packet<W: Write>(
+    out: &mut W,
+    letter: u8,
+    block: Room,
+    packet: Room,
+    size: usize,
+) -> io::Result<Room>
+    requires { size < 5253 }
+{
+    let answer = take_or_ask(out, letter, block, packet, size)?;
+    tell(out, answer, block)
+}
+
 // The block after a call.
-fn next_block(letter: u8, block: Room, table: Room, bytes: Bytes) -> Room {
+fn next_block<W: Write>(
+    out: &mut W,
+    letter: u8,
+    block: Room,
+    table: Room,
+    bytes: Bytes,
+) -> io::Result<Room> {
     let room = bytes.room;
-    let size = scripts::inside(bytes.size);
+    let size = scripts::inside(out, bytes.size)?;
     match letter {
-        b'p' => scripts::put(block, bytes),
-        b'o' => tell(open(block, table, room), block),
-        b't' | b'a' => tell(take_or_ask(letter, block, room, size), block),
+        b'p' => scripts::put(out, block, bytes),
+        b'o' => tell_open(out, block, table, room),
+        b't' | b'a' => tell_packet(out, letter, block, room, size),
         _ => {
-            tell_other(letter, block, table, room);
-            block
+            tell_other(out, letter, block, table, room)?;
+            Ok(block)
         }
     }
 }
 
 fn house_table() -> Room {
     let mut table = [0u8; 5253];
-    bytes::copy(&house::table(), &mut table);
+    table[..1089].copy_from_slice(&house::table());
     table
 }
 
 // The table after a call.
-fn next_table(letter: u8, table: Room, bytes: Bytes) -> Room {
+fn next_table<W: Write>(out: &mut W, letter: u8, table: Room, bytes: Bytes) -> io::Result<Room> {
     if letter == b'h' {
-        return house_table();
+        return Ok(house_table());
     }
-    scripts::next_table(letter, table, bytes)
+    scripts::next_table(out, letter, table, bytes)
 }
 
 // The next letter of the script, 0 at its end.
-fn next_letter() -> u8 {
+fn next_letter<R: Read>(input: &mut R) -> io::Result<u8> {
     let mut letters = [0u8; 1];
-    io::read_full(0, &mut letters);
-    letters[0]
+    if input.read(&mut letters)? == 0 {
+        return Ok(0);
+    }
+    Ok(letters[0])
 }
 
-fn main() {
+// Answers the calls of the script that is read, and writes the rest of it.
+fn run<R: Read, W: Write>(input: &mut R, out: &mut W) -> io::Result<()> {
     let mut block = [0u8; 5253];
     let mut table = [0u8; 5253];
     let mut script = scripts::begun();
     for _ in 0..65536usize {
-        let c = next_letter();
+        let c = next_letter(input)?;
         if c == 0 {
-            return;
+            return Ok(());
         }
         if scripts::is_text(script.part, c) {
-            io::write_all(1, &[c]);
+            out.write_all(&[c])?;
         }
-        let next = scripts::after(script, c);
+        let next = scripts::after(out, script, c)?;
         script = next;
         if script.part == scripts::CALLED {
             let bytes = script.bytes;
-            let next = next_table(script.letter, table, bytes);
-            let after = next_block(script.letter, block, next, bytes);
+            let next = next_table(out, script.letter, table, bytes)?;
+            let after = next_block(out, script.letter, block, next, bytes)?;
             table = next;
             block = after;
         }
     }
+    Ok(())
+}
+
+fn main(rt: HostRuntime) -> io::Result<()> {
+    run(&mut rt.stdin(), &mut rt.stdout())
 }
