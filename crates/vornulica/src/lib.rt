@@ -1,6 +1,7 @@
 // The library for a C or C++ host: every call on byte slices, its answer packed into one number. Nothing is asked of what the host lends.
 // What is lent by `&` cannot be written; the contracts say what becomes of what is lent by `&mut`.
 #![tactic(auto)]
+
 ghost use Rattle.std.specs.Prelude.{◌≡◌};
 ghost use Rattle.replies.specs.Replies.{packed};
 ghost use Rattle.opening.specs.Open.{open_reply, open_block};

@@ -1,6 +1,7 @@
 // The library for a C or C++ host: what such a host links. Each export is the call of vornulica of its name, with its clauses, and an answer
 // packed into one number. Nothing is asked of what the host lends.
 #![tactic(auto)]
+
 ghost use Rattle.std.specs.Prelude.{◌≡◌};
 ghost use Rattle.replies.specs.Replies.{packed};
 ghost use Rattle.opening.specs.Open.{open_reply, open_block};
