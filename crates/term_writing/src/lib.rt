@@ -2,6 +2,7 @@
 // again, or too deep, or one that says something is not met at all, the rig is no tree from there; nor is it where joints are joined. The
 // text is made in an array first, so that all this is known before a byte of the output is written.
 #![tactic(auto)]
+
 ghost use Rattle.std.specs.Prelude.{◌≡◌, true, [], ◌∷◌, ℕ, ◌+◌, ◌*◌, ◌<◌, ◌≤◌, length};
 ghost use Rattle.decimals.specs.Decimal.{decimal};
 ghost use Rattle.meaning.specs.Form.{unknown, links_from};
