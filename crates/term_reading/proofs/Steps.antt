@@ -20,19 +20,28 @@ use Rattle.term_reading.specs.declared.Front.{Front}
 use Rattle.term_reading.specs.declared.Numbered.TheVariants as numbered_answer
 use Rattle.term_reading.specs.declared.Step.TheVariants as step_answer
 use Rattle.term_reading.specs.ReadTerm.{longest_text}
-use Rattle.term_reading.specs.Reading.{NumberRead, Sound, wrong_reply, Said, lead_facts, JointStep, LinkStep, KindStep}
+use Rattle.term_reading.specs.Reading.{Told, NumberRead, Sound, wrong_reply, Said, lead_facts, JointStep, LinkStep, KindStep}
 use Rattle.term_reading.specs.Reading.{KindMissing, HeadRead, Awaited}
 use Rattle.term_reading.specs.declared.Lead.{Lead}
-use Rattle.term_reading.proofs.Segments.{passed, no_tokens, then, a_sign, a_number}
+use Rattle.term_reading.proofs.Segments.{passed, no_tokens, then, a_sign, a_number, within}
 use Rattle.term_reading.proofs.Facts.{nothing_said}
 use Rattle.term_reading.proofs.Contexts.{spans, stuck_at_kind}
 use Rattle.term_reading.proofs.Terms.{with_facts, led_sound, head_read}
+
+-- an answer that is known
+pub known : {Answer : Type 0} {Holds : Answer → Type 0} {answer x : Answer} → Told Holds answer → answer ≡ x → Holds x
+known {Holds = Holds} t e = subst Holds e t.is
 
 -- the number of the first one out of range, with a number x at p that has to lie below a limit
 abbrev pub Next : ℕ → ℕ → ℕ → ℕ → ℕ → Type 0
 Next before x limit p after = wrong_reply after ≡ first_refusal (wrong_reply before ∷ []) (unless (ltb x limit) OutOfRange p)
 
 module _ (text : List ℕ) (from : Front) (sound : Sound text from) where
+  -- behind a sign of its own the next thing stands within the text
+  pub room_behind : (b : ℕ) → here text from.at ≡ b → b < 256 → length text ≤ longest_text →
+      (from.at + 1 ≤ length text) × (length text ≤ longest_text)
+  room_behind b h small long = (omega (arith, within text from.at b h small), long)
+
   pub joint_step : (v x end wrong : ℕ) → here text from.at ≡ at_sign → NumberRead text (from.at + 1) x end →
       Next from.wrong x v (from.at + 1) wrong →
       JointStep text v from (numbered_answer.Read x (record { at = end; facts = from.facts; wrong = wrong }))

@@ -201,6 +201,10 @@ pub record Going (text : List ℕ) (n v around j : ℕ) (from : Front) (s : List
   pub awaited : ArgumentsAwaited text around front.at
   pub whole : (end : Front) (u : List ℕ) → ArgumentsRead text n v around j front t end u → ArgumentsRead text n v around j from s end u
 
+pub begins : {text : List ℕ} {n v around j : ℕ} {from : Front} {s : List ℕ} → Sound text from → ArgumentsAwaited text around from.at →
+    Going text n v around j from s from s
+begins sound awaited = record { sound = sound; forward = omega arith; size = refl; awaited = awaited; whole = λ end u r. r }
+
 module _
     {text : List ℕ} {n v around j : ℕ} {from : Front} {s : List ℕ} {front : Front} {t : List ℕ} (g : Going text n v around j from s front t)
     {l : ℕ} {inner : Front} (link_read : NumberedRead text n v link_tokens front l inner)
