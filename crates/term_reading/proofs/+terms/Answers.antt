@@ -58,7 +58,7 @@ pub read_term-returns-then-around-eq15 : goal.read_term-returns-then-around-eq15
 read_term-returns-then-around-eq15 t c =
     let head = c.in-Read.ensures.is in
     let h = sym c.byte_or_end.ensures ∙ c.if-byte_or_end-ne-OPENING.false in
-    record { is = (too_deep c.requires.3 head h c.if-around-eq15.true, head.said.size) }
+    record { is = (too_deep c.requires.3 head h (omega (arith, c.requires.3.shallow, c.if-around-eq15.true)), head.said.size) }
 
 pub read_term-read_arguments-requires : goal.read_term-read_arguments-requires
 read_term-read_arguments-requires t c =
@@ -67,7 +67,7 @@ read_term-read_arguments-requires t c =
     let h = sym c.byte_or_end.ensures ∙ c.if-byte_or_end-ne-OPENING.false in
     let e = c.passed.ensures in (
       omega (arith, c.decreases, arguments_nearer w head h e),
-      (next_sound w head h e, c.requires.1, head.said.size ∙ c.requires.2, next_awaited_arguments w head h e c.if-around-eq15.false),
+      (next_sound w head h e, c.requires.1, head.said.size ∙ c.requires.2, next_awaited_arguments w head h e (λ q. omega (arith, q, c.if-around-eq15.false))),
     )
 
 pub read_term-returns-in-Stuck : goal.read_term-returns-in-Stuck

@@ -1,5 +1,6 @@
 -- `term_reading::put_packet` meets its contract: each return is a reply of the term, in their order.
 -- Assumes nothing.
+use native.Mathlib.Omega.{arith}
 use mathlib.Core.Path.{ap}
 use Prim.Native.Nat.{◌+◌, ◌*◌}
 use lib.ListN.{take}
@@ -12,11 +13,11 @@ returns-then-told c = let a = c.args in out_of_range a.end a.v a.packet.now a.ou
 pub returns-then-facts-gt-MOST_FACTS : goal.returns-then-facts-gt-MOST_FACTS
 returns-then-facts-gt-MOST_FACTS c =
     let a = c.args in
-    too_many a.end a.v a.packet.now a.out.now c.if-told.false c.if-facts-gt-MOST_FACTS.true
+    too_many a.end a.v a.packet.now a.out.now c.if-told.false (omega (arith, c.if-facts-gt-MOST_FACTS.true))
 
 pub returns : goal.returns
 returns c =
     let out = c.put_out in
     let a = c.args in
-    put a.end a.v a.packet.now a.out.now c.if-told.false c.if-facts-gt-MOST_FACTS.false
+    put a.end a.v a.packet.now a.out.now c.if-told.false (omega (arith, c.if-facts-gt-MOST_FACTS.false))
     (ap (take (6 + 4 * a.end.facts)) c.put_header.ensures) out.ensures.0 out.ensures.1

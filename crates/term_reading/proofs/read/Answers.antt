@@ -11,12 +11,12 @@ use Rattle.term_reading.proofs.Answers.{too_long, bad_block, answered}
 use Rattle.term_reading.proofs.read.Goals as goal
 
 pub returns-then-text-gt-LONGEST_TEXT : goal.returns-then-text-gt-LONGEST_TEXT
-returns-then-text-gt-LONGEST_TEXT c = let a = c.args in too_long a.block.now a.text.now a.out.now c.if-text-gt-LONGEST_TEXT.true
+returns-then-text-gt-LONGEST_TEXT c = let a = c.args in too_long a.block.now a.text.now a.out.now (omega (arith, c.if-text-gt-LONGEST_TEXT.true))
 
 pub returns-then-is_refusal : goal.returns-then-is_refusal
 returns-then-is_refusal c =
     let a = c.args in
-    bad_block a.block.now a.text.now a.out.now c.if-text-gt-LONGEST_TEXT.false c.block_reply-reply.ensures
+    bad_block a.block.now a.text.now a.out.now (omega (arith, c.if-text-gt-LONGEST_TEXT.false)) c.block_reply-reply.ensures
     (sym c.is_refusal.ensures ∙ c.if-is_refusal.true)
 
 pub kind_count-requires : goal.kind_count-requires
@@ -33,5 +33,5 @@ pub returns : goal.returns
 returns c =
     let passes : refuses (block_reply c.args.block.now) ≡ false = tested c.block_reply-reply.ensures c.is_refusal.ensures c.if-is_refusal.false in
     let a = c.args in
-    answered a.block.now a.text.now a.out.now c.if-text-gt-LONGEST_TEXT.false passes c.kind_count.ensures
+    answered a.block.now a.text.now a.out.now (omega (arith, c.if-text-gt-LONGEST_TEXT.false)) passes c.kind_count.ensures
     c.joint_count.ensures c.read_packet.ensures

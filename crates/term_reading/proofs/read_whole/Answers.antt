@@ -13,9 +13,9 @@ pub returns-then-at-length : goal.returns-then-at-length
 returns-then-at-length c =
     record {
       is =
-          more_behind c.in-Read.ensures.is c.if-at-length.true
-          (byte_is_no_end c.args.text.now _ c.if-at-length.true (c.type_inv.text _).fits);
+          more_behind c.in-Read.ensures.is (omega (arith, c.if-at-length.true))
+          (byte_is_no_end c.args.text.now _ (omega (arith, c.if-at-length.true)) (c.type_inv.text _).fits);
     }
 
 pub returns-else-at-length : goal.returns-else-at-length
-returns-else-at-length c = record { is = whole_read c.in-Read.ensures.is c.if-at-length.false }
+returns-else-at-length c = record { is = whole_read c.in-Read.ensures.is (omega (arith, c.if-at-length.false)) }
