@@ -1,15 +1,20 @@
 // Reads V as one byte, then packets, from standard input, and writes one line a call: a word, then number, place and third.
 // The kinds are the house kinds.
 #![tactic(auto)]
-ghost use Rattle.std.specs.Prelude.{◌≡◌, ℕ, ◌+◌, ◌≤◌, ◌<◌, length, take};
+
+ghost use Rattle.std.specs.Prelude.{◌≡◌, ℕ, ◌+◌, ◌≤◌, ◌<◌, ◌^◌, List, length, take, drop, IfOk, OnOk, IfSome};
+ghost use Rattle.std.specs.Io.KnownBytes.{Appends};
 ghost use Rattle.blocks.specs.Layout.{block_size};
 ghost use Rattle.lines.specs.Text.{line, longest_word, room, holding};
 ghost use Rattle.rigcheck.specs.declared.Step.TheVariants.{Packet};
 ghost use Rattle.rigcheck.specs.Lines.{is_facts, Answered, longest, step_of, goes_on, Turn, Opening};
+ghost use Rattle.rigcheck.specs.Input.{text_of, ReadUpTo, TurnOn, Packets, Run};
 
 use blocks::BLOCK;
 use lines::Line;
 use replies::{Cause, Reply};
+use std::io;
+use std::io::{Read, Write};
 
 // The largest L of a packet.
 const LONGEST: usize = 4372;
@@ -123,7 +128,7 @@ fn told(block: &mut [u8], packet: [u8; LONGEST_PACKET], step: Step, rest: usize)
 }
 
 // The line of `open`, and whether it ends the run.
-#[derive(Clone, Copy)]
+#[derive(Drop)]
 struct Opened {
     line: Line,
     refused: bool,
@@ -143,33 +148,56 @@ fn open(joints: u8, block: &mut [u8]) -> Opened
 }
 
 // Writes the text of a line.
-fn print(line: Line)
+fn print<W: Write>(out: &mut W, line: Line) -> io::Result<()>
     requires { line.size ≤ room }
+    ensures { OnOk result (Appends (W.contents out.old) (W.contents out.new) (text_of line)) }
 {
     let bytes = line.bytes;
     let size = line.size;
-    io::write_all(1, &bytes[..size]);
+    out.write_all(&bytes[..size])
+}
+
+// Reads until `bytes` is full or the input ends. The bytes read; each turn reads one at least.
+fn read_full<R: Read>(input: &mut R, bytes: &mut [u8]) -> io::Result<usize>
+    ensures { IfOk result (λ got. ReadUpTo (length bytes.new) got (R.remaining input.old) (R.remaining input.new) bytes.new) }
+{
+    let size = bytes.len();
+    let mut done = 0;
+    for _ in 0..size {
+        let got = input.read(&mut bytes[done..])?;
+        if got == 0 {
+            return Ok(done);
+        }
+        done += got;
+        if done == size {
+            return Ok(done);
+        }
+    }
+    Ok(done)
 }
 
 // Reads up to `size` bytes to `at`, and keeps those before. The bytes read.
-fn read_to(packet: &mut [u8], at: usize, size: usize) -> usize
+fn read_to<R: Read>(input: &mut R, packet: &mut [u8], at: usize, size: usize) -> io::Result<usize>
     requires { at + size ≤ length packet.old }
-    ensures { take at packet.new ≡ take at packet.old }
+    ensures keeps { take at packet.new ≡ take at packet.old }
+    ensures bytes { IfOk result (λ got. ReadUpTo size got (R.remaining input.old) (R.remaining input.new) (drop at packet.new)) }
 {
     let end = at + size;
-    io::read_full(0, &mut packet[at..end])
+    read_full(input, &mut packet[at..end])
 }
 
 // Reads a packet behind its two bytes of L, which stay. The bytes read.
-fn read_rest(packet: &mut [u8], step: Step) -> usize
+fn read_rest<R: Read>(input: &mut R, packet: &mut [u8], step: Step) -> io::Result<usize>
     requires { (size : ℕ) → step ≡ Packet size → 2 + size ≤ length packet.old }
-    ensures { take 2 packet.new ≡ take 2 packet.old }
+    ensures keeps { take 2 packet.new ≡ take 2 packet.old }
+    ensures bytes { (size : ℕ) → step ≡ Packet size
+        → IfOk result (λ got. ReadUpTo size got (R.remaining input.old) (R.remaining input.new) (drop 2 packet.new)) }
 {
     match step {
-        Step::End => 0,
-        Step::Cut => 0,
-        Step::Long => 0,
-        Step::Packet(size) => read_to(packet, 2, size),
+        Step::End => Ok(0),
+        Step::Cut => Ok(0),
+        Step::Long => Ok(0),
+        Step::Packet(size) => read_to(input, packet, 2, size),
     }
 }
 
@@ -181,21 +209,29 @@ fn no_packet() -> [u8; LONGEST_PACKET]
 }
 
 // One packet. Whether the run goes on.
-fn next_packet(block: &mut [u8]) -> bool {
+fn next_packet<R: Read, W: Write>(input: &mut R, out: &mut W, block: &mut [u8]) -> io::Result<bool>
+    ensures { IfOk result (λ more. IfSome (R.remaining input.old)
+        (λ xs. TurnOn block.old xs more (R.remaining input.new) (W.contents out.old) (W.contents out.new) block.new)) }
+{
     let mut packet = no_packet();
-    let got = read_to(&mut packet, 0, 2);
+    let got = read_to(input, &mut packet, 0, 2)?;
     let step = next_step(got, packet);
-    let rest = read_rest(&mut packet, step);
-    print(told(block, packet, step, rest));
-    goes_on(step, rest)
+    let rest = read_rest(input, &mut packet, step)?;
+    print(out, told(block, packet, step, rest))?;
+    Ok(goes_on(step, rest))
 }
 
 // Every packet of the input; no input is so long that the count runs out.
-fn all_packets(block: &mut [u8]) {
-    let mut turns = u64::MAX;
-    while 0 < turns && next_packet(block) {
-        turns -= 1;
+fn all_packets<R: Read, W: Write>(input: &mut R, out: &mut W, block: &mut [u8]) -> io::Result<()>
+    ensures { OnOk result (IfSome (R.remaining input.old) (λ xs. length xs < 2 ^ 64
+        → (text : List ℕ) × Packets block.new block.old xs text × Appends (W.contents out.old) (W.contents out.new) text)) }
+{
+    for _ in 0..u64::MAX {
+        if !next_packet(input, out, block)? {
+            return Ok(());
+        }
     }
+    Ok(())
 }
 
 // Room for a block; the contract gives the length alone, too.
@@ -205,16 +241,25 @@ fn no_block() -> [u8; BLOCK]
     [0; BLOCK]
 }
 
-fn main() {
+// V, then the packets.
+fn run<R: Read, W: Write>(input: &mut R, out: &mut W) -> io::Result<()>
+    ensures { OnOk result (IfSome (R.remaining input.old) (λ xs. length xs < 2 ^ 64
+        → (text : List ℕ) × Run xs text × Appends (W.contents out.old) (W.contents out.new) text)) }
+{
     let mut joints = [0u8; 1];
-    if io::read_full(0, &mut joints) == 0 {
-        return;
+    if read_full(input, &mut joints)? == 0 {
+        return Ok(());
     }
     let mut block = no_block();
     let opened = open(joints[0], &mut block);
-    print(opened.line);
-    if opened.refused {
-        return;
+    let refused = opened.refused;
+    print(out, opened.line)?;
+    if refused {
+        return Ok(());
     }
-    all_packets(&mut block);
+    all_packets(input, out, &mut block)
+}
+
+fn main(rt: HostRuntime) -> io::Result<()> {
+    run(&mut rt.stdin(), &mut rt.stdout())
 }
