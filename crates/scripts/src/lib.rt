@@ -2,11 +2,14 @@
 // `[t 0004 0101]`: a letter, then bytes in hex. The text is written as it stands, but for a `#` and what follows it up to the end of its line,
 // and a program writes the answer to a call in the place of the call. In a call `fact step count*` stands for `count` facts of four bytes, each
 // byte of a fact differing from that of the fact before by the byte of the step. Where a script is not understood a `?` is written, which is in
-// no stored output.
+// no stored output. What is written goes to a writer: an error is that writer's, comes only where a `?` or bytes to be shown are written, as the
+// clauses `err` say, and leaves nothing but what the writer took.
 #![tactic(auto)]
 
-ghost use Rattle.std.specs.Prelude.{◌≡◌, ◌-◌, ◌*◌, ◌<◌, IfOk};
+ghost use Rattle.std.specs.Prelude.{◌≡◌, ◌≢◌, ◌+◌, ◌-◌, ◌*◌, ◌<◌, ◌⊎◌, true, false, IfOk, OnErr};
 ghost use Rattle.scripts.specs.Rooms.{byte_at, with_byte, number_at, inside_of, put_bytes, flat_entry, flat_table, table_after, summed, sum_of};
+ghost use Rattle.runs.specs.Runs.{within};
+ghost use Rattle.scripts.specs.Scripts.{in_bytes, at_second_digit, line_end, blank, closing, zero_digit, letter_a};
 ghost use Rattle.scripts.specs.Scripts.{no_bytes, begun_script, is_plain, is_text, text_after, digit_of, with_digits, repeated_facts, with_repeats, call_after, script_after};
 
 use std::io;
@@ -50,7 +53,8 @@ fn write_letter<W: Write>(out: &mut W, c: u8) -> io::Result<()> {
 
 // A size or an offset that lies inside a room; 0 for one that does not, and a `?` is written.
 pub fn inside<W: Write>(out: &mut W, size: usize) -> io::Result<usize>
-    ensures { IfOk result (λ r. (r ≡ inside_of size) × (r < 5253)) }
+    ensures done { IfOk result (λ r. (r ≡ inside_of size) × (r < 5253)) }
+    ensures err { OnErr result (5252 < size) }
 {
     if 5252 < size {
         write_letter(out, b'?')?;
@@ -90,7 +94,8 @@ pub fn number(room: Room, at: usize) -> usize
 
 // The room with the bytes of a call in it: an offset, and what stands there.
 pub fn put<W: Write>(out: &mut W, room: Room, bytes: Bytes) -> io::Result<Room>
-    ensures { IfOk result (λ r. r ≡ put_bytes room bytes) }
+    ensures done { IfOk result (λ r. r ≡ put_bytes room bytes) }
+    ensures err { OnErr result (5252 < number_at bytes.room 0 + bytes.size) }
 {
     let from = bytes.room;
     let mut next = room;
@@ -135,7 +140,8 @@ fn flat_table(n: usize) -> Room
 
 // The table after a call: `k`, the flat table of so many kinds; `e`, bytes put into the table.
 pub fn next_table<W: Write>(out: &mut W, letter: u8, table: Room, bytes: Bytes) -> io::Result<Room>
-    ensures { IfOk result (λ r. r ≡ table_after letter table bytes) }
+    ensures done { IfOk result (λ r. r ≡ table_after letter table bytes) }
+    ensures err { OnErr result ((letter ≡ 101) × (5252 < number_at bytes.room 0 + bytes.size)) }
 {
     let room = bytes.room;
     match letter {
@@ -218,7 +224,8 @@ fn no_digit<W: Write>(out: &mut W) -> io::Result<u8>
 
 // The value of a hex digit.
 fn digit<W: Write>(out: &mut W, c: u8) -> io::Result<u8>
-    ensures { IfOk result (λ r. (r ≡ digit_of c) × (r < 16)) }
+    ensures done { IfOk result (λ r. (r ≡ digit_of c) × (r < 16)) }
+    ensures err { OnErr result ((within zero_digit 57 c ≡ false) × (within letter_a 70 c ≡ false)) }
 {
     if c < b'0' {
         return no_digit(out);
@@ -237,7 +244,8 @@ fn digit<W: Write>(out: &mut W, c: u8) -> io::Result<u8>
 
 // The bytes with one more, of two digits.
 fn with_digits<W: Write>(out: &mut W, bytes: Bytes, first: u8, second: u8) -> io::Result<Bytes>
-    ensures { IfOk result (λ r. r ≡ with_digits bytes first second) }
+    ensures done { IfOk result (λ r. r ≡ with_digits bytes first second) }
+    ensures err { OnErr result (5252 < bytes.size) }
 {
     let room = bytes.room;
     let size = inside(out, bytes.size)?;
@@ -263,7 +271,8 @@ fn repeated(room: Room, base: usize, count: usize) -> Room
 
 // The bytes with the last nine of them, a fact, its step and a number, made so many facts.
 fn with_repeats<W: Write>(out: &mut W, bytes: Bytes) -> io::Result<Bytes>
-    ensures { IfOk result (λ r. r ≡ with_repeats bytes) }
+    ensures done { IfOk result (λ r. r ≡ with_repeats bytes) }
+    ensures err { OnErr result ((5252 < bytes.size) ⊎ (bytes.size < 9)) }
 {
     let room = bytes.room;
     let size = inside(out, bytes.size)?;
@@ -281,7 +290,8 @@ fn with_repeats<W: Write>(out: &mut W, bytes: Bytes) -> io::Result<Bytes>
 
 // The script behind a letter among the bytes of a call.
 fn call_after<W: Write>(out: &mut W, script: Script, c: u8) -> io::Result<Script>
-    ensures { IfOk result (λ r. r ≡ call_after script c) }
+    ensures done { IfOk result (λ r. r ≡ call_after script c) }
+    ensures err { OnErr result ((c ≢ blank) × (c ≢ line_end) × (c ≢ closing)) }
 {
     let letter = script.letter;
     let bytes = script.bytes;
@@ -317,7 +327,8 @@ fn call_after<W: Write>(out: &mut W, script: Script, c: u8) -> io::Result<Script
 
 // The script behind its next letter.
 pub fn after<W: Write>(out: &mut W, script: Script, c: u8) -> io::Result<Script>
-    ensures { IfOk result (λ r. r ≡ script_after script c) }
+    ensures done { IfOk result (λ r. r ≡ script_after script c) }
+    ensures err { OnErr result ((script.part ≡ in_bytes) ⊎ (script.part ≡ at_second_digit)) }
 {
     let part = script.part;
     let letter = script.letter;
@@ -360,7 +371,8 @@ fn write_digit<W: Write>(out: &mut W, x: usize) -> io::Result<()>
 // The sum with one more byte, which is written where it is to be shown.
 fn with_byte<W: Write>(out: &mut W, sum: usize, x: usize, shown: bool) -> io::Result<usize>
     requires { x < 256 }
-    ensures { IfOk result (λ r. r ≡ summed sum x) }
+    ensures done { IfOk result (λ r. r ≡ summed sum x) }
+    ensures err { OnErr result (shown ≡ true) }
 {
     if shown {
         write_letter(out, b' ')?;
@@ -372,7 +384,8 @@ fn with_byte<W: Write>(out: &mut W, sum: usize, x: usize, shown: bool) -> io::Re
 
 // A sum by which so many bytes of a room and their places tell; the bytes are written too where they are to be shown.
 pub fn sum<W: Write>(out: &mut W, room: Room, size: usize, shown: bool) -> io::Result<usize>
-    ensures { IfOk result (λ r. r ≡ sum_of room size) }
+    ensures done { IfOk result (λ r. r ≡ sum_of room size) }
+    ensures err { OnErr result (shown ≡ true) }
 {
     let mut sum = 0;
     for i in 0..size {

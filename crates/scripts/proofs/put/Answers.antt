@@ -29,7 +29,7 @@ one_more from room {next} {i} {at} {x} h e f g =
     ∙ ap (put_first from room) d
 
 pub loop-i-init : goal.loop-i-init
-loop-i-init g c = (omega arith, omega (arith, c.in_ok-i-end.ensures), omega arith, none_yet _ _)
+loop-i-init g c = (omega arith, omega (arith, c.in_ok-i-end.ensures.done), omega arith, none_yet _ _)
 
 pub loop-i-preserved : goal.loop-i-preserved
 loop-i-preserved g c =
@@ -38,7 +38,7 @@ loop-i-preserved g c =
     let q : c.number.result + l.i - 2 ≡ c.number.result + (l.i - 2) =
     omega (arith, l.invariant.0) in
     let at : c.in_ok-at.at ≡ inside_of (number_at from 0 + (l.i - 2)) =
-    c.in_ok-at.ensures.0
+    c.in_ok-at.ensures.done.0
     ∙ ap inside_of (q ∙ ap (λ (x : ℕ). x + (l.i - 2)) c.number.ensures.0) in (
       omega (arith, l.invariant.0),
       l.invariant.1,
@@ -46,8 +46,8 @@ loop-i-preserved g c =
       c.set-more.ensures ∙ one_more from _ l.invariant.0 l.invariant.3 at c.byte.ensures.0,
     )
 
-pub returns : goal.returns
-returns g c =
+pub returns-clause-done : goal.returns-clause-done
+returns-clause-done g c =
     let l = c.loop-i in
     let e : l.i - 2 ≡ c.in_ok-i-end.i-end - 2 = omega (arith, l.invariant.2) in
-    l.invariant.3 ∙ ap (put_first _ _) (e ∙ ap (λ (x : ℕ). x - 2) c.in_ok-i-end.ensures.0)
+    l.invariant.3 ∙ ap (put_first _ _) (e ∙ ap (λ (x : ℕ). x - 2) c.in_ok-i-end.ensures.done.0)

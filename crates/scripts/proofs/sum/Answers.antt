@@ -22,8 +22,8 @@ loop-i-init g c = (omega arith, none_yet _)
 pub loop-i-preserved : goal.loop-i-preserved
 loop-i-preserved g c = (
   omega arith,
-  c.in_ok-sum.ensures ∙ ap₂ summed c.loop-i.invariant.1 c.byte.ensures.0 ∙ one_more _ _,
+  c.in_ok-sum.ensures.done ∙ ap₂ summed c.loop-i.invariant.1 c.byte.ensures.0 ∙ one_more _ _,
 )
 
-pub returns : goal.returns
-returns g c = let e : c.loop-i.i ≡ c.args.size = omega arith in c.loop-i.invariant.1 ∙ ap (sum_of _) e
+pub returns-clause-done : goal.returns-clause-done
+returns-clause-done g c = let e : c.loop-i.i ≡ c.args.size = omega arith in c.loop-i.invariant.1 ∙ ap (sum_of _) e
