@@ -1,7 +1,8 @@
 // Makes the calls of a script. The answer to a call is number, place and third, whether the block is the same as before, and the output.
 #![tactic(auto)]
 
-ghost use Rattle.std.specs.Prelude.{◌<◌, IfOk};
+ghost use Rattle.std.specs.Prelude.{◌<◌, IfOk, OnErr};
+ghost use Rattle.scripts.specs.Rooms.{number_at};
 
 use replies::Reply;
 use scripts::{Bytes, Room};
@@ -53,7 +54,8 @@ fn answer_to(
 
 // How many bytes of the block are lent: the number behind it and one byte more.
 fn lent_of<W: Write>(out: &mut W, block: Room) -> io::Result<usize>
-    ensures { IfOk result (λ r. r < 5253) }
+    ensures done { IfOk result (λ r. r < 5253) }
+    ensures err { OnErr result (5252 < number_at block 5251) }
 {
     scripts::inside(out, scripts::number(block, 5251))
 }
