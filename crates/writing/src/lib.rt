@@ -174,6 +174,7 @@ fn put_measured(block: &[u8], out: &mut [u8]) -> Reply
 }
 
 // The solved form as a facts packet, where the output has room for it. A refusal writes nothing.
+#[tactic(auto, using(crate::proofs::Writing::output_decides, crate::proofs::Writing::written))]
 pub fn write(block: &[u8], out: &mut [u8]) -> Reply
     ensures { (result ≡ write_reply block.now out.old)
         × (out.new ≡ written_output block.now out.old) }

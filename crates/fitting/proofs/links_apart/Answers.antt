@@ -27,8 +27,5 @@ returns c =
     let size : length c.rows-rows.result.now ≡ 1024 = let s = c in part_size 130 1024 s.args.session.now c.rows-rows.ensures (omega (arith, s.requires.0)) in
     let room : 16 * c.args.v ≤ length c.rows-rows.result.now = omega (arith, size, c.requires.1) in
     λ e.
-    let test = c in
-    let most = test in
-    let found = most in
-    links_apart found.args.session.now _ found.rows-rows.ensures (room)
-    most.highest.ensures (omega (arith, most.wide.ensures, test.if-v-wide.false)) (sym c.is_zero.ensures ∙ e)
+    links_apart c.args.session.now _ c.rows-rows.ensures room
+    c.highest.ensures (omega (arith, c.wide.ensures)) (sym c.is_zero.ensures ∙ e)

@@ -8,7 +8,7 @@ use Rattle.replies.specs.Replies.{refuses}
 use Rattle.replies.proofs.Laws.{tested}
 use Rattle.blocks.specs.WellFormed.{block_reply}
 use Rattle.blocks.proofs.Shape.{GoodBlock, good_block}
-use Rattle.writing.proofs.Writing.{block_refuses, output_decides, unwritten, written}
+use Rattle.writing.proofs.Writing.{block_refuses, unwritten}
 use Rattle.writing.proofs.write.Goals as goal
 
 pub returns-then-is_refusal : goal.returns-then-is_refusal
@@ -21,26 +21,10 @@ pub put_straight-requires : goal.put_straight-requires
 put_straight-requires c =
     let not_refused : refuses (block_reply c.args.block.now) ≡ false = tested c.block_reply-reply.ensures c.is_refusal.ensures c.if-is_refusal.false in
     let good : GoodBlock c.args.block.now = good_block _ (not_refused) in
-    let g = good in (omega (arith, g.size), g.well.v_high, c.if-out-ge-LONGEST_FORM.true)
-
-pub returns-then-out-ge-LONGEST_FORM : goal.returns-then-out-ge-LONGEST_FORM
-returns-then-out-ge-LONGEST_FORM c =
-    let not_refused : refuses (block_reply c.args.block.now) ≡ false = tested c.block_reply-reply.ensures c.is_refusal.ensures c.if-is_refusal.false in
-    let put = c in
-    let passed = put in
-    let e = not_refused in
-    (put.put_straight.ensures.0 ∙ sym (output_decides _ _ e), put.put_straight.ensures.1 ∙ written _ _ e)
+    let g = good in (omega (arith, g.size), g.well.v_high, omega arith)
 
 pub put_measured-requires : goal.put_measured-requires
 put_measured-requires c =
     let not_refused : refuses (block_reply c.args.block.now) ≡ false = tested c.block_reply-reply.ensures c.is_refusal.ensures c.if-is_refusal.false in
     let good : GoodBlock c.args.block.now = good_block _ (not_refused) in
     let g = good in (omega (arith, g.size), g.well.v_high)
-
-pub returns : goal.returns
-returns c =
-    let not_refused : refuses (block_reply c.args.block.now) ≡ false = tested c.block_reply-reply.ensures c.is_refusal.ensures c.if-is_refusal.false in
-    let put = c in
-    let passed = put in
-    let e = not_refused in
-    (put.put_measured.ensures.0 ∙ sym (output_decides _ _ e), put.put_measured.ensures.1 ∙ written _ _ e)
