@@ -1,6 +1,6 @@
 -- What a script's calls make of a room of 5,253 bytes, and the sum by which its bytes are told. Only the programs of examples rest on these.
 -- Assumes nothing.
-use Rattle.std.specs.Prelude.{cond, List, ℕ, zero, suc, ◌+◌, ◌-◌, ◌*◌, ◌/◌, ◌%◌, eqb, ltb, get_or, set}
+use Rattle.std.specs.Prelude.{◌<◌, ◌⊎◌, cond, List, ℕ, zero, suc, ◌+◌, ◌-◌, ◌*◌, ◌/◌, ◌%◌, eqb, ltb, get_or, set}
 use Rattle.runs.specs.Runs.{each}
 use Rattle.scripts.specs.declared.Bytes.{Bytes}
 
@@ -25,6 +25,10 @@ put_first from room (suc count) = with_byte (put_first from room count) (inside_
 
 abbrev pub put_bytes : List ℕ → Bytes → List ℕ
 put_bytes room bytes = put_first bytes.room room (inside_of bytes.size - 2)
+
+-- bytes of a call of which not all can be put: more than a room holds, or some that would stand outside
+abbrev pub CannotPut : Bytes → Type 0
+CannotPut bytes = (5252 < bytes.size) ⊎ ((2 < bytes.size) × (5255 < number_at bytes.room 0 + bytes.size))
 
 -- the entry at p of the table of n kinds in which, beside 0 and 1, no kind is under another
 abbrev pub flat_entry : ℕ → ℕ → ℕ

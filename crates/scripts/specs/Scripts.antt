@@ -1,7 +1,7 @@
 -- How a script is read, letter by letter: where one is in it, what is written of its text, and the bytes of a call. Only the programs of examples
 -- rest on this.
 -- Assumes nothing.
-use Rattle.std.specs.Prelude.{Bool, cond, not, ◌&&◌, ◌||◌, List, ℕ, zero, suc, ◌+◌, ◌-◌, ◌*◌, ◌%◌, eqb, ltb, replicate}
+use Rattle.std.specs.Prelude.{◌≡◌, ◌≢◌, ◌<◌, ◌⊎◌, false, Bool, cond, not, ◌&&◌, ◌||◌, List, ℕ, zero, suc, ◌+◌, ◌-◌, ◌*◌, ◌%◌, eqb, ltb, replicate}
 use Rattle.runs.specs.Runs.{within}
 use Rattle.scripts.specs.Rooms.{byte_at, with_byte, inside_of}
 use Rattle.scripts.specs.declared.Bytes.{Bytes}
@@ -73,6 +73,10 @@ text_after part c =
 abbrev pub digit_of : ℕ → ℕ
 digit_of c = cond (within zero_digit 57 c) (c - zero_digit) (cond (within letter_a 70 c) (c - letter_a + 10) 0)
 
+-- a letter that is no hex digit
+abbrev pub NoDigit : ℕ → Type 0
+NoDigit c = (within zero_digit 57 c ≡ false) × (within letter_a 70 c ≡ false)
+
 abbrev pub with_digits : Bytes → ℕ → ℕ → Bytes
 with_digits bytes first second =
     record { room = with_byte bytes.room (inside_of bytes.size) (16 * first + second); size = inside_of bytes.size + 1 }
@@ -105,3 +109,12 @@ script_after script c =
     (cond (eqb script.part in_bytes) (call_after script c)
     (cond (eqb script.part at_second_digit) (record { part = in_bytes; letter = script.letter; digit = 0; bytes = with_digits script.bytes script.digit (digit_of c) })
     (record { part = text_after script.part c; letter = script.letter; digit = script.digit; bytes = script.bytes })))
+
+-- bytes that cannot be repeated: too few for a fact, its step and a number, or more than a room holds
+abbrev pub CannotRepeat : Bytes → Type 0
+CannotRepeat bytes = (5252 < bytes.size) ⊎ (bytes.size < 9)
+
+-- a letter that is not understood among the bytes of a call
+abbrev pub IsFault : Script → ℕ → Type 0
+IsFault script c =
+    ((c ≡ star) × CannotRepeat script.bytes) ⊎ ((c ≢ star) × (c ≢ blank) × (c ≢ line_end) × (c ≢ closing) × NoDigit c)

@@ -6,10 +6,9 @@
 // clauses `err` say, and leaves nothing but what the writer took.
 #![tactic(auto)]
 
-ghost use Rattle.std.specs.Prelude.{◌≡◌, ◌≢◌, ◌+◌, ◌-◌, ◌*◌, ◌<◌, ◌⊎◌, true, false, IfOk, OnErr};
-ghost use Rattle.scripts.specs.Rooms.{byte_at, with_byte, number_at, inside_of, put_bytes, flat_entry, flat_table, table_after, summed, sum_of};
-ghost use Rattle.runs.specs.Runs.{within};
-ghost use Rattle.scripts.specs.Scripts.{in_bytes, at_second_digit, line_end, blank, closing, zero_digit, letter_a};
+ghost use Rattle.std.specs.Prelude.{◌≡◌, ◌-◌, ◌*◌, ◌<◌, ◌⊎◌, true, IfOk, OnErr};
+ghost use Rattle.scripts.specs.Rooms.{byte_at, with_byte, number_at, inside_of, put_bytes, CannotPut, flat_entry, flat_table, table_after, summed, sum_of};
+ghost use Rattle.scripts.specs.Scripts.{in_bytes, at_second_digit, NoDigit, CannotRepeat, IsFault};
 ghost use Rattle.scripts.specs.Scripts.{no_bytes, begun_script, is_plain, is_text, text_after, digit_of, with_digits, repeated_facts, with_repeats, call_after, script_after};
 
 use std::io;
@@ -95,7 +94,7 @@ pub fn number(room: Room, at: usize) -> usize
 // The room with the bytes of a call in it: an offset, and what stands there.
 pub fn put<W: Write>(out: &mut W, room: Room, bytes: Bytes) -> io::Result<Room>
     ensures done { IfOk result (λ r. r ≡ put_bytes room bytes) }
-    ensures err { OnErr result (5252 < number_at bytes.room 0 + bytes.size) }
+    ensures err { OnErr result (CannotPut bytes) }
 {
     let from = bytes.room;
     let mut next = room;
@@ -141,7 +140,7 @@ fn flat_table(n: usize) -> Room
 // The table after a call: `k`, the flat table of so many kinds; `e`, bytes put into the table.
 pub fn next_table<W: Write>(out: &mut W, letter: u8, table: Room, bytes: Bytes) -> io::Result<Room>
     ensures done { IfOk result (λ r. r ≡ table_after letter table bytes) }
-    ensures err { OnErr result ((letter ≡ 101) × (5252 < number_at bytes.room 0 + bytes.size)) }
+    ensures err { OnErr result ((letter ≡ 101) × CannotPut bytes) }
 {
     let room = bytes.room;
     match letter {
@@ -225,7 +224,7 @@ fn no_digit<W: Write>(out: &mut W) -> io::Result<u8>
 // The value of a hex digit.
 fn digit<W: Write>(out: &mut W, c: u8) -> io::Result<u8>
     ensures done { IfOk result (λ r. (r ≡ digit_of c) × (r < 16)) }
-    ensures err { OnErr result ((within zero_digit 57 c ≡ false) × (within letter_a 70 c ≡ false)) }
+    ensures err { OnErr result (NoDigit c) }
 {
     if c < b'0' {
         return no_digit(out);
@@ -272,7 +271,7 @@ fn repeated(room: Room, base: usize, count: usize) -> Room
 // The bytes with the last nine of them, a fact, its step and a number, made so many facts.
 fn with_repeats<W: Write>(out: &mut W, bytes: Bytes) -> io::Result<Bytes>
     ensures done { IfOk result (λ r. r ≡ with_repeats bytes) }
-    ensures err { OnErr result ((5252 < bytes.size) ⊎ (bytes.size < 9)) }
+    ensures err { OnErr result (CannotRepeat bytes) }
 {
     let room = bytes.room;
     let size = inside(out, bytes.size)?;
@@ -291,7 +290,7 @@ fn with_repeats<W: Write>(out: &mut W, bytes: Bytes) -> io::Result<Bytes>
 // The script behind a letter among the bytes of a call.
 fn call_after<W: Write>(out: &mut W, script: Script, c: u8) -> io::Result<Script>
     ensures done { IfOk result (λ r. r ≡ call_after script c) }
-    ensures err { OnErr result ((c ≢ blank) × (c ≢ line_end) × (c ≢ closing)) }
+    ensures err { OnErr result (IsFault script c) }
 {
     let letter = script.letter;
     let bytes = script.bytes;
@@ -328,7 +327,8 @@ fn call_after<W: Write>(out: &mut W, script: Script, c: u8) -> io::Result<Script
 // The script behind its next letter.
 pub fn after<W: Write>(out: &mut W, script: Script, c: u8) -> io::Result<Script>
     ensures done { IfOk result (λ r. r ≡ script_after script c) }
-    ensures err { OnErr result ((script.part ≡ in_bytes) ⊎ (script.part ≡ at_second_digit)) }
+    ensures err { OnErr result (((script.part ≡ in_bytes) × IsFault script c)
+        ⊎ ((script.part ≡ at_second_digit) × (NoDigit c ⊎ (5252 < script.bytes.size)))) }
 {
     let part = script.part;
     let letter = script.letter;
@@ -385,7 +385,7 @@ fn with_byte<W: Write>(out: &mut W, sum: usize, x: usize, shown: bool) -> io::Re
 // A sum by which so many bytes of a room and their places tell; the bytes are written too where they are to be shown.
 pub fn sum<W: Write>(out: &mut W, room: Room, size: usize, shown: bool) -> io::Result<usize>
     ensures done { IfOk result (λ r. r ≡ sum_of room size) }
-    ensures err { OnErr result (shown ≡ true) }
+    ensures err { OnErr result ((shown ≡ true) × (0 < size)) }
 {
     let mut sum = 0;
     for i in 0..size {
