@@ -2,7 +2,7 @@
 // The kinds are the house kinds.
 #![tactic(auto)]
 
-ghost use Rattle.std.specs.Prelude.{◌≡◌, ℕ, ◌+◌, ◌≤◌, ◌<◌, ◌^◌, List, length, take, drop, IfOk, OnOk, IfSome};
+ghost use Rattle.std.specs.Prelude.{◌≡◌, ℕ, ◌+◌, ◌≤◌, ◌<◌, ◌^◌, List, length, take, drop, IfOk, OnOk, OnErr, IfSome};
 ghost use Rattle.std.specs.Io.KnownBytes.{Appends};
 ghost use Rattle.blocks.specs.Layout.{block_size};
 ghost use Rattle.lines.specs.Text.{line, longest_word, room, holding};
@@ -159,7 +159,8 @@ fn print<W: Write>(out: &mut W, line: Line) -> io::Result<()>
 
 // Reads until `bytes` is full or the input ends. The bytes read; each turn reads one at least.
 fn read_full<R: Read>(input: &mut R, bytes: &mut [u8]) -> io::Result<usize>
-    ensures { IfOk result (λ got. ReadUpTo (length bytes.new) got (R.remaining input.old) (R.remaining input.new) bytes.new) }
+    ensures bytes { IfOk result (λ got. ReadUpTo (length bytes.new) got (R.remaining input.old) (R.remaining input.new) bytes.new) }
+    ensures err { OnErr result (0 < length bytes.old) }
 {
     let size = bytes.len();
     let mut done = 0;
@@ -181,6 +182,7 @@ fn read_to<R: Read>(input: &mut R, packet: &mut [u8], at: usize, size: usize) ->
     requires { at + size ≤ length packet.old }
     ensures keeps { take at packet.new ≡ take at packet.old }
     ensures bytes { IfOk result (λ got. ReadUpTo size got (R.remaining input.old) (R.remaining input.new) (drop at packet.new)) }
+    ensures err { OnErr result (0 < size) }
 {
     let end = at + size;
     read_full(input, &mut packet[at..end])
@@ -192,6 +194,7 @@ fn read_rest<R: Read>(input: &mut R, packet: &mut [u8], step: Step) -> io::Resul
     ensures keeps { take 2 packet.new ≡ take 2 packet.old }
     ensures bytes { (size : ℕ) → step ≡ Packet size
         → IfOk result (λ got. ReadUpTo size got (R.remaining input.old) (R.remaining input.new) (drop 2 packet.new)) }
+    ensures err { OnErr result ((size : ℕ) × ((step ≡ Packet size) × (0 < size))) }
 {
     match step {
         Step::End => Ok(0),
