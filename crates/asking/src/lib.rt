@@ -195,15 +195,7 @@ fn settled(session: &[u8], end: Solved, rows: &[u8], v: usize, k: usize) -> bool
     ensures { (result ≡ true → Settled v k (block_form session.now) (form_of end rows.now))
         × (result ≡ false → Settled v k (block_form session.now) (form_of end rows.now) → ⊥) }
 {
-    let class = end.class;
-    let kind = end.kind;
-    let rig = Solved {
-        class,
-        kind,
-        top: end.top,
-        ok: end.ok,
-    };
-    if !same_rig(session, rig, rows, v) {
+    if !same_rig(session, end, rows, v) {
         return false;
     }
     all_inside(end, v, k)

@@ -10,7 +10,7 @@ use replies::Reply;
 const ROOM: usize = 40;
 
 // Its first `size` bytes are the text, the others zero.
-#[derive(Drop)]
+#[derive(Clone, Copy)]
 pub struct Line {
     pub bytes: [u8; ROOM],
     pub size: usize,

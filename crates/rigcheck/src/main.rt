@@ -128,7 +128,7 @@ fn told(block: &mut [u8], packet: [u8; LONGEST_PACKET], step: Step, rest: usize)
 }
 
 // The line of `open`, and whether it ends the run.
-#[derive(Drop)]
+#[derive(Clone, Copy)]
 struct Opened {
     line: Line,
     refused: bool,

@@ -12,7 +12,7 @@ ghost use Rattle.solver.specs.Steps.{Pushed, Joinable, JoinReady, JoinStep, Join
 
 // The unpacked solved form of up to 96 nodes: the rig's joints first, then those of a rule. What is known of the nodes goes by value; the
 // rows, 16 links for each node, 255 for a link not known, are lent beside it.
-#[derive(Drop)]
+#[derive(Clone, Copy)]
 pub struct Solved {
     // The class number of each node, the smallest node of its class; 0 behind the nodes.
     pub class: [u8; 96],
@@ -33,7 +33,7 @@ pub enum NodeFact {
 }
 
 // Facts taken one after another, until one clashes: the form, and how many were taken before that one; all of them, where the form is no clash.
-#[derive(Drop)]
+#[derive(Clone, Copy)]
 pub struct Fold {
     pub form: Solved,
     pub at: usize,

@@ -21,7 +21,7 @@ use solver::{Fold, NodeFact, Solved};
 
 // What the solver makes of a packet: whether it clashes, how many facts were taken before that, and where it does not clash, the number of joins
 // and the next form.
-#[derive(Drop)]
+#[derive(Clone, Copy)]
 pub struct Outcome {
     pub clash: bool,
     pub at: usize,

@@ -72,8 +72,8 @@ module _ {n v : ℕ} {S : Form} (w : Well n v S) {root : ℕ} (tree : TreeFrom v
       (λ l low known. from_whole depth deeper (S.link j l) (omega arith) (within_next S j l low known short)) 0 16 (omega arith))
 
   module _ (inside : root < v) where
-    abbrev tree_term_lem : Term
-    tree_term_lem = term_from S deepest root
+    abbrev tree_term : Term
+    tree_term = term_from S deepest root
 
     -- every fact that the form says is in its term
     says_reached : (f : Fact ℕ) → Says S f → Concerned v S (subject f)
@@ -81,46 +81,46 @@ module _ {n v : ℕ} {S : Form} (w : Well n v S) {root : ℕ} (tree : TreeFrom v
     says_reached (same a b) says = absurd says
     says_reached (leads a l c) says = link_known l says.0 says.1
 
-    says_in_term : (f : Fact ℕ) → subject f < v → Says S f → Memᴰ f (term_facts tree_term_lem)
+    says_in_term : (f : Fact ℕ) → subject f < v → Says S f → Memᴰ f (term_facts tree_term)
     says_in_term f h says =
         by_cases (ℕ_discrete (subject f) root)
         (λ e. in_term S f deepest root [] (omega arith) (sym e) says)
         (λ d. let o = tree.reached (subject f) h d (says_reached f says) in in_term S f deepest root o.walk o.short o.leads says)
 
     -- the facts of the term are those of the form, each of them once
-    term→form : (f : Fact ℕ) → Memᴰ f (term_facts tree_term_lem) → Memᴰ f (facts_of v S)
+    term→form : (f : Fact ℕ) → Memᴰ f (term_facts tree_term) → Memᴰ f (facts_of v S)
     term→form f m =
         let r = term_from_lem S deepest root m in
         let h = walk_inside S ends r.walk root (subject f) inside r.there in
         form_member S f 0 v (tree.apart (subject f) h) (omega arith) (omega arith) r.says
 
-    form→term : (f : Fact ℕ) → Memᴰ f (facts_of v S) → Memᴰ f (term_facts tree_term_lem)
+    form→term : (f : Fact ℕ) → Memᴰ f (facts_of v S) → Memᴰ f (term_facts tree_term)
     form→term f m = let r = form_cases S 0 v (λ i from below. tree.apart i (omega arith)) m in says_in_term f (omega (arith, r.0)) r.1
 
     -- the same pictures and placings satisfy them
-    pub tree_means : {k : ℕ} (meet : ℕ → ℕ → ℕ) (P : Picture k) (σ : ℕ → ℕ) → All meet P σ (term_facts tree_term_lem) ↔ All meet P σ (facts_of v S)
+    pub tree_means : {k : ℕ} (meet : ℕ → ℕ → ℕ) (P : Picture k) (σ : ℕ → ℕ) → All meet P σ (term_facts tree_term) ↔ All meet P σ (facts_of v S)
     tree_means meet P σ =
-        (all_within meet P σ (facts_of v S) (term_facts tree_term_lem) form→term, all_within meet P σ (term_facts tree_term_lem) (facts_of v S) term→form)
+        (all_within meet P σ (facts_of v S) (term_facts tree_term) form→term, all_within meet P σ (term_facts tree_term) (facts_of v S) term→form)
 
-    pub tree_ranged : Ranged n v tree_term_lem
+    pub tree_ranged : Ranged n v tree_term
     tree_ranged = from_ranged deepest root inside
 
-    pub tree_few : v ≤ 64 → length (term_facts tree_term_lem) ≤ 1088
+    pub tree_few : v ≤ 64 → length (term_facts tree_term) ≤ 1088
     tree_few few =
         omega (
           arith,
-          no_longer (term_facts tree_term_lem) (facts_of v S) (term_distinct S deepest root (only_walk S ends inside tree)) term→form,
+          no_longer (term_facts tree_term) (facts_of v S) (term_distinct S deepest root (only_walk S ends inside tree)) term→form,
           taken_few v S few,
           length-map (facts_of v S) (rename rig_joint),
         )
 
     -- the term is at most 16 terms deep, and nothing is cut there
-    pub tree_fits : n ≤ 64 → v ≤ 64 → Fits tree_term_lem deepest
+    pub tree_fits : n ≤ 64 → v ≤ 64 → Fits tree_term deepest
     tree_fits few_kinds few = from_fits few_kinds few deepest root inside (short_walk S ends inside tree)
 
-    pub tree_whole : (deeper : ℕ) → deepest ≤ deeper → term_from S deeper root ≡ tree_term_lem
+    pub tree_whole : (deeper : ℕ) → deepest ≤ deeper → term_from S deeper root ≡ tree_term
     tree_whole deeper h = from_whole deepest deeper root h (short_walk S ends inside tree)
 
     -- kinds but 1 are written, links rise
-    pub tree_rises : Rising tree_term_lem
+    pub tree_rises : Rising tree_term
     tree_rises = from_rises S deepest root
