@@ -29,7 +29,7 @@ def defined_in_antt(text):
 
 
 RT_ITEM = re.compile(r"\s*(?:pub\s+)?(?:extern\s+\"C\"\s+)?(?:fn|struct|enum|const|type|mod)\s+(\w+)")
-RT_OWNER = re.compile(r"(?:pub\s+)?(impl|enum)\s+(\w+)\s*\{")
+RT_OWNER = re.compile(r"(?:pub\s+)?(impl|enum)(?:<[^{]*>)?\s+(\w+)(?:<[^{]*>)?\s*\{")
 RT_VARIANT = re.compile(r"\s+([A-Z]\w*)\s*(?:\(.*\)|=.*)?,?$")
 
 

@@ -1,18 +1,20 @@
 -- Asking: the ties and facts of a rule in range at their nodes and taken in turn, and the verdict that the form taken gives.
 -- Assumes nothing.
-use mathlib.Core.Path.{◌≡◌, refl, sym, ap, ◌∙◌}
+use mathlib.Core.Path.{◌≡◌, refl, sym, ap, ap₂, ◌∙◌}
 use mathlib.Core.Logic.{inl, inr, by_cases}
+use Rattle.std.proofs.Common.{nat_eq}
 use mathlib.Core.Bool.{Bool, true, false, true≢false, false≢true}
 use mathlib.Core.List.{List, [], map}
 use Prim.Native.Nat.{ℕ, zero, suc, ◌+◌, ◌*◌, ◌/◌, ◌%◌, ◌<◌, ◌≤◌}
 use native.Mathlib.Omega.{arith}
 use native.Mathlib.Decide.{dec_lt}
 use native.Mathlib.Nat.{not-suc-le-zero, div-add-mod', mod-lt}
-use lib.ListN.{get_or, length, take}
+use lib.ListN.{get_or, length, take, drop, take-append-drop}
+use Rattle.std.specs.Prelude.{Result, Ok, Err, is_ok, OnOk}
+use lib.Pointwise.{pointwise}
+use Rattle.std.specs.Cmp.Lexicographic.{same_text, other_text}
 use lib.Seq.{ext_get_or, get_or-take, length-take-le}
-use Rattle.replies.specs.declared.Reply.{Reply}
-use Rattle.replies.specs.declared.Reply.TheVariants.{Done}
-use Rattle.replies.specs.Replies.{refuses}
+use Rattle.replies.specs.Replies.{refuses, Reply}
 use Rattle.replies.proofs.Laws.{first_none, first_here, first_next, first_passed}
 use Rattle.runs.specs.Runs.{each}
 use Rattle.runs.proofs.Each.{each_map}
@@ -24,7 +26,7 @@ use Rattle.meaning.specs.Picture.Fact.{has_kind, same, leads}
 use Rattle.meaning.specs.Rig.{meet_of}
 use Rattle.meaning.specs.Rule.{rule_joint, Judged}
 use Rattle.meaning.specs.Form.{Form, list_form, unknown}
-use Rattle.meaning.specs.Solving.{InRange, Well}
+use Rattle.meaning.specs.Solving.{InRange, Well, Taken, Refuted}
 use Rattle.meaning.specs.Asking.{TiesInRange, RuleInRange, rule_number, rule_node, tie_fact, rule_node_facts, Extends, Settled}
 use Rattle.meaning.proofs.Extend.{extend_well}
 use Rattle.meaning.proofs.Asked.{clash_ruled_out, taken_not_out, settled_applies, applies_settled}
@@ -36,7 +38,8 @@ use Rattle.screening.proofs.WellFormed.{WellFormed, well_formed_lem, packet_done
 use Rattle.reach.specs.Reached.{ReachReply}
 use Rattle.reach.specs.Marking.{nth_fact}
 use Rattle.reach.proofs.Reached.{all_reached}
-use Rattle.solver.specs.Unpacked.{Named, Ready, Took}
+use Rattle.meaning.proofs.Takes.{refuted_more}
+use Rattle.solver.specs.Unpacked.{Named, Ready, Took, Folded}
 use Rattle.solver.proofs.OneFact.{well_named}
 use Rattle.joints.specs.Layout.{kinds_of, joints_of, classes_of, joint_kinds_of, rows_of, block_form, taken}
 use Rattle.blocks.specs.Layout.{table_of, rig_of}
@@ -69,7 +72,7 @@ abbrev pub node_rule_fact : ℕ → List ℕ → ℕ → Fact ℕ
 node_rule_fact v p i = rename (rule_node v) (nth_fact p i)
 
 -- the numbers of a rule that no reply from 5 to 9 refuses, for n kinds and v rig joints
-pub rule_fits : (n v : ℕ) (p : List ℕ) → packet_reply rule_wanted n v p ≡ Done 0 → WellFormed rule_wanted n v p
+pub rule_fits : (n v : ℕ) (p : List ℕ) → packet_reply rule_wanted n v p ≡ Ok 0 → WellFormed rule_wanted n v p
 rule_fits n v p e = well_formed_lem rule_wanted n v p (ap refuses e)
 
 module _ {n v : ℕ} {p : List ℕ} (w : WellFormed rule_wanted n v p) where
@@ -110,6 +113,23 @@ node_ties v p = each_map (tie_fact v) (λ i. tie_of p (tie_at i)) 0 (ties p)
 pub node_facts : (v : ℕ) (p : List ℕ) → map (rename (rule_node v)) (rule_of p).facts ≡ each (node_rule_fact v p) 0 (fact_count p)
 node_facts v p = each_map (rename (rule_node v)) (nth_fact p) 0 (fact_count p)
 
+-- the facts of a loop, taken or not, where no more is said of a clash than that
+module _ {A B E : Type 0} where
+  pub folded_took :
+      (n : ℕ) (meet : ℕ → ℕ → ℕ) (v : ℕ) (S : Form) (fs : List (Fact ℕ)) (r : Result A ℕ) (s : Result B E) (T : Form) → is_ok s ≡ is_ok r
+      → Folded n meet v S fs r T → Took n meet v S fs s (λ _. T)
+  folded_took n meet v S fs (Ok x) (Ok y) T e f = f
+  folded_took n meet v S fs (Ok x) (Err d) T e f = absurd (false≢true e)
+  folded_took n meet v S fs (Err i) (Ok y) T e f = absurd (true≢false e)
+  folded_took n meet v S fs (Err i) (Err d) T e f =
+      rw (take-append-drop (i + 1) fs) at (refuted_more n meet v S (take (i + 1) fs) (drop (i + 1) fs) f.refuted)
+
+  pub on_ok_too : (P : Type 0) (r : Result A ℕ) (s : Result B E) → is_ok s ≡ is_ok r → OnOk r P → OnOk s P
+  on_ok_too P (Ok x) (Ok y) e p = p
+  on_ok_too P (Ok x) (Err d) e p = tt
+  on_ok_too P (Err i) (Ok y) e p = absurd (true≢false e)
+  on_ok_too P (Err i) (Err d) e p = tt
+
 -- b tells whether X
 abbrev pub Tells : Bool → Type 0 → Type 0
 Tells b X = (b ≡ true → X) × (b ≡ false → X → ⊥)
@@ -138,6 +158,11 @@ module _ (xs ys : List ℕ) (count : ℕ) (a : count ≤ length xs) (b : count �
       let n : length (take count xs) ≡ count = length-take-le count xs a in
       ext_get_or 0 (take count xs) (take count ys) (n ∙ sym (length-take-le count ys b))
       (λ i h. let k : i < count = omega (arith, n) in get_or-take count xs i 0 k ∙ f i k ∙ sym (get_or-take count ys i 0 k))
+
+  -- two slices compared
+  pub front_told : (r : Bool) → r ≡ pointwise nat_eq (take count xs) (take count ys) → Tells r (SameFront xs ys count)
+  front_told true e = yes (fronts_same (same_text _ _ e))
+  front_told false e = no (λ f. other_text _ _ e (same_fronts f))
 
 -- the rig's part of a form, list by list; a row of links is 16 places
 module _ (v : ℕ) (b class kind rows : List ℕ) where
@@ -169,14 +194,14 @@ without_inside q =
 -- neither the block nor the packet is refused by a reply from 1 to 9
 pub record Asked (b p : List ℕ) : Type 0 where
   pub good : GoodBlock b
-  pub rule : packet_reply rule_wanted (kinds_of b) (joints_of b) p ≡ Done 0
+  pub rule : packet_reply rule_wanted (kinds_of b) (joints_of b) p ≡ Ok 0
 
 -- the first refusal, and that there is none
 module _ (b p : List ℕ) where
   abbrev packet : Reply
   packet = packet_reply rule_wanted (kinds_of b) (joints_of b) p
 
-  pub asked : ask_refusal b p ≡ Done 0 → Asked b p
+  pub asked : ask_refusal b p ≡ Ok 0 → Asked b p
   unfolding ask_refusal
   asked e = let both = call_goes_on b packet e in record { good = both.0; rule = both.1 }
 
@@ -188,7 +213,12 @@ module _ (b p : List ℕ) where
   unfolding ask_refusal
   packet_decides e = first_next (block_reply b) [] packet e ∙ first_none packet
 
-  pub ask_goes_on : refuses (ask_refusal b p) ≡ false → ask_refusal b p ≡ Done 0
+  -- the reply to the packet, by the numbers read off the block
+  pub packet_told :
+      block_reply b ≡ Ok 0 → {n v : ℕ} → n ≡ kinds_of b → v ≡ joints_of b → {r : Reply} → r ≡ packet_reply rule_wanted n v p → r ≡ ask_refusal b p
+  packet_told good n v e = e ∙ ap₂ (λ (n v : ℕ). packet_reply rule_wanted n v p) n v ∙ sym (packet_decides (ap refuses good))
+
+  pub ask_goes_on : refuses (ask_refusal b p) ≡ false → ask_refusal b p ≡ Ok 0
   unfolding ask_refusal
   ask_goes_on e =
       let passed = first_passed (block_reply b) [] packet e in
@@ -244,20 +274,20 @@ module _ {b p : List ℕ} (a : Asked b p) where
     asked_named = extends_named a.good.well.v_low a.good.well.well x
 
     -- what the ties and facts, taken there, say of the rule
-    module _
-        {T : Form} {ok : Bool}
-        (t : Took (kinds_of b) (meet_of (rig_of b)) (joints_of b + joints p) E (rule_node_facts (joints_of b) (rule_of p)) ok T) where
-      pub ruled_out : ok ≡ false → Judged (rig_of b) (taken b) (rule_of p) RuledOut
-      ruled_out e = clash_ruled_out (block_rig a.good.well) a.good.well.well in_range small x (t.refuted e)
+    pub ruled_out :
+        Refuted (kinds_of b) (meet_of (rig_of b)) (joints_of b + joints p) E (rule_node_facts (joints_of b) (rule_of p))
+        → Judged (rig_of b) (taken b) (rule_of p) RuledOut
+    ruled_out no = clash_ruled_out (block_rig a.good.well) a.good.well.well in_range small x no
 
-      pub applies : ok ≡ true → Settled (joints_of b) (joints p) (block_form b) T → Judged (rig_of b) (taken b) (rule_of p) Applies
-      applies e q = settled_applies (block_rig a.good.well) a.good.well.well in_range small x (t.taken e) q
+    module _ {T : Form} (t : Taken (kinds_of b) (meet_of (rig_of b)) (joints_of b + joints p) E (rule_node_facts (joints_of b) (rule_of p)) T) where
+      pub applies : Settled (joints_of b) (joints p) (block_form b) T → Judged (rig_of b) (taken b) (rule_of p) Applies
+      applies q = settled_applies (block_rig a.good.well) a.good.well.well in_range small x t q
 
       pub waits :
-          ok ≡ true → ReachReply (rule_of p) (Done 0) → (Settled (joints_of b) (joints p) (block_form b) T → ⊥)
+          ReachReply (rule_of p) (Ok 0) → (Settled (joints_of b) (joints p) (block_form b) T → ⊥)
           → Judged (rig_of b) (taken b) (rule_of p) Waits
-      waits e reach d =
+      waits reach d =
           let g = block_rig a.good.well in
           let w = a.good.well.well in
-          let settles = applies_settled g w in_range small x (t.taken e) (all_reached reach refl) in
-          (λ y. d (settles y), taken_not_out g w in_range small x (t.taken e))
+          let settles = applies_settled g w in_range small x t (all_reached reach refl) in
+          (λ y. d (settles y), taken_not_out g w in_range small x t)

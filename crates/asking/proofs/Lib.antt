@@ -1,3 +1,2 @@
-pub mod Turns
 pub mod Asking
 pub mod OneAsk

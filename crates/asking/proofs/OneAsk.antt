@@ -3,8 +3,8 @@
 use mathlib.Core.Path.{◌≡◌, refl, sym, ap, ◌∙◌}
 use mathlib.Core.List.{List}
 use Prim.Native.Nat.{ℕ}
-use Rattle.replies.specs.declared.Reply.{Reply}
-use Rattle.replies.specs.declared.Reply.TheVariants.{Done}
+use Rattle.std.specs.Prelude.{Ok}
+use Rattle.replies.specs.Replies.{Reply}
 use Rattle.replies.proofs.Laws.{not_both}
 use Rattle.meaning.specs.declared.Verdict.{Verdict}
 use Rattle.meaning.specs.declared.Verdict.TheVariants.{Applies, RuledOut, Waits}
@@ -41,4 +41,4 @@ ask_one (unreached _ x q) (judged _ y _ _ _) = absurd (not_both q (reach_one x y
 ask_one (judged d _ _ _ _) (refused q _) = absurd (not_both q d)
 ask_one (judged _ y _ _ _) (unreached _ x q) = absurd (not_both q (reach_one x y))
 ask_one {b} {p} (judged d _ x f e) (judged _ _ y g h) =
-    e ∙ ap (λ (z : Verdict). Done (verdict_number z)) (verdict_one (asked b p d).good p x y f g) ∙ sym h
+    e ∙ ap (λ (z : Verdict). Ok (verdict_number z)) (verdict_one (asked b p d).good p x y f g) ∙ sym h

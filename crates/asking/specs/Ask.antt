@@ -1,9 +1,7 @@
 -- Ask: replies 1 and 4 to 10; third is the verdict; nothing is written.
 -- Assumes nothing.
-use Rattle.std.specs.Prelude.{◌≡◌, true, List, [], ◌∷◌, ℕ}
-use Rattle.replies.specs.declared.Reply.{Reply}
-use Rattle.replies.specs.declared.Reply.TheVariants.{Done}
-use Rattle.replies.specs.Replies.{refuses, first_refusal}
+use Rattle.std.specs.Prelude.{◌≡◌, true, List, [], ◌∷◌, ℕ, Ok}
+use Rattle.replies.specs.Replies.{refuses, first_refusal, Reply}
 use Rattle.meaning.specs.declared.Verdict.{Verdict}
 use Rattle.meaning.specs.Rule.{Judged, verdict_number}
 use Rattle.packets.specs.Facts.{rule_of}
@@ -21,7 +19,7 @@ ask_refusal b p = first_refusal (block_reply b ∷ []) (packet_reply rule_wanted
 pub data Ask (b p : List ℕ) (reply : Reply) : Type 0 where
   refused : refuses (ask_refusal b p) ≡ true → reply ≡ ask_refusal b p → Ask b p reply
   -- 10: a joint of the rule is not reached
-  unreached : ask_refusal b p ≡ Done 0 → ReachReply (rule_of p) reply → refuses reply ≡ true → Ask b p reply
+  unreached : ask_refusal b p ≡ Ok 0 → ReachReply (rule_of p) reply → refuses reply ≡ true → Ask b p reply
   judged :
-      ask_refusal b p ≡ Done 0 → ReachReply (rule_of p) (Done 0) → (verdict : Verdict)
-      → Judged (rig_of b) (taken b) (rule_of p) verdict → reply ≡ Done (verdict_number verdict) → Ask b p reply
+      ask_refusal b p ≡ Ok 0 → ReachReply (rule_of p) (Ok 0) → (verdict : Verdict)
+      → Judged (rig_of b) (taken b) (rule_of p) verdict → reply ≡ Ok (verdict_number verdict) → Ask b p reply

@@ -7,8 +7,8 @@ use Prim.Native.Nat.{ℕ, ◌-◌, ◌*◌, ◌≤◌}
 use native.Mathlib.Omega.{arith}
 use lib.ListN.{length, get_or, take, replicate, length-append, length-replicate}
 use lib.Seq.{take_at}
+use Rattle.std.specs.Prelude.{Ok}
 use Rattle.kinds.proofs.Offset.{square_le}
-use Rattle.replies.specs.declared.Reply.TheVariants.{Done}
 use Rattle.tables.specs.Check.{table_reply}
 use Rattle.kinds.specs.Sizes.{Sized}
 use Rattle.joints.specs.Layout.{session_size, block_form, taken, class_count}
@@ -30,7 +30,7 @@ module _ (n v : ℕ) (table : List ℕ) (z : Sized n table) (high : v ≤ 64) wh
   pub fresh_table : table_of (fresh_block n v table) ≡ table
   fresh_table = ap (take (n * n)) room_fresh ∙ take_at table (replicate (table_room - length table) 0) (n * n) z.size
 
-  pub fresh_good : 1 ≤ v → table_reply n table ≡ Done 0 → GoodBlock (fresh_block n v table)
+  pub fresh_good : 1 ≤ v → table_reply n table ≡ Ok 0 → GoodBlock (fresh_block n v table)
   fresh_good low passes =
       record {
         size = omega (arith, fresh_size n v high (room_with table), room_length);

@@ -10,11 +10,10 @@ use lib.Dec.{eqb}
 use lib.ListN.{length, get_or, drop, length-drop}
 use lib.Seq.{length-take-le, get_or-drop}
 use borrow.Author.Tests.{eqb-true, eq-eqb, ne_eqb, not-true}
+use Rattle.std.specs.Prelude.{Ok}
 use Rattle.kinds.proofs.Offset.{square_le}
 use Rattle.replies.specs.declared.Cause.TheVariants.{BadSize, BadBlock}
-use Rattle.replies.specs.declared.Reply.{Reply}
-use Rattle.replies.specs.declared.Reply.TheVariants.{Done, Refused}
-use Rattle.replies.specs.Replies.{refuses, first_refusal}
+use Rattle.replies.specs.Replies.{refuses, first_refusal, Reply, refusal}
 use Rattle.replies.proofs.Laws.{first_none, first_next, first_passed, test_here, test_next, test_passed}
 use Rattle.runs.specs.Runs.{all_zero, within}
 use Rattle.runs.proofs.Zeros.{zero_at, all_zero_lem}
@@ -27,10 +26,11 @@ use Rattle.meaning.specs.Rig.{Rig}
 use Rattle.meaning.proofs.Rigs.{LawfulRig}
 use Rattle.joints.specs.Layout.{session_size, kinds_of, joints_of, block_form}
 use Rattle.fitting.specs.Fits.{joints_fit}
-use Rattle.fitting.proofs.Tests.{both, left, right, range_use, range_make}
+use Rattle.fitting.proofs.Tests.{range_use, range_make}
 use Rattle.fitting.proofs.Shape.{joints_apart, joints_together}
 use Rattle.blocks.specs.Layout.{block_size, room_of, table_of, rig_of}
 use Rattle.blocks.specs.WellFormed.{table_fits, well_formed, block_reply, Stands}
+use Rattle.std.proofs.lemmas.Bool.{and_from, and_parts}
 
 -- the clauses of a well-formed block
 pub record WellBlock (b : List ℕ) : Type 0 where
@@ -38,7 +38,7 @@ pub record WellBlock (b : List ℕ) : Type 0 where
   pub n_high : kinds_of b ≤ 64
   pub v_low : 1 ≤ joints_of b
   pub v_high : joints_of b ≤ 64
-  pub passes : table_reply (kinds_of b) (table_of b) ≡ Done 0
+  pub passes : table_reply (kinds_of b) (table_of b) ≡ Ok 0
   pub well : Well (kinds_of b) (joints_of b) (block_form b)
   pub zeros : (i : ℕ) → session_size + kinds_of b * kinds_of b ≤ i → get_or b i 0 ≡ 0
 
@@ -53,10 +53,10 @@ module _ (b : List ℕ) where
   unfolding table_fits
   taken_apart e =
       let n = kinds_of b in
-      let fits = left (table_fits n (room_of b)) (joints_fit n b) e in
-      let in_n = range_use 2 64 n (left (within 2 64 n) (table_passes && rest_zero) fits) in
-      let behind_n = right (within 2 64 n) (table_passes && rest_zero) fits in
-      let joints = joints_apart n b (omega (arith, in_n.0)) (right (table_fits n (room_of b)) (joints_fit n b) e) in
+      let fits = (and_parts (table_fits n (room_of b)) (joints_fit n b) e).0 in
+      let in_n = range_use 2 64 n (and_parts (within 2 64 n) (table_passes && rest_zero) fits).0 in
+      let behind_n = (and_parts (within 2 64 n) (table_passes && rest_zero) fits).1 in
+      let joints = joints_apart n b (omega (arith, in_n.0)) (and_parts (table_fits n (room_of b)) (joints_fit n b) e).1 in
       record {
         n_low = in_n.0;
         n_high = in_n.1;
@@ -64,13 +64,13 @@ module _ (b : List ℕ) where
         v_high = joints.v_high;
         passes =
             passes_done n (table_of b) (in_order n)
-            (not-true (refuses (table_reply n (table_of b))) (left table_passes rest_zero behind_n));
+            (not-true (refuses (table_reply n (table_of b))) (and_parts table_passes rest_zero behind_n).0);
         well = joints.well;
         zeros = λ i h.
             let k : session_size + n * n + (i - (session_size + n * n)) ≡ i = omega arith in
             ap (λ (m : ℕ). get_or b m 0) (sym k)
             ∙ sym (behind_table (i - (session_size + n * n)))
-            ∙ zero_at (drop (n * n) (room_of b)) (right table_passes rest_zero behind_n) (i - (session_size + n * n));
+            ∙ zero_at (drop (n * n) (room_of b)) (and_parts table_passes rest_zero behind_n).1 (i - (session_size + n * n));
       }
     where
       table_passes : Bool
@@ -83,9 +83,9 @@ module _ (b : List ℕ) where
   unfolding table_fits
   put_together w =
       let n = kinds_of b in
-      both (table_fits n (room_of b)) (joints_fit n b)
-      (both (within 2 64 n) _ (range_make 2 64 n w.n_low w.n_high)
-      (both (not (refuses (table_reply n (table_of b)))) _ (ap (λ (r : Reply). not (refuses r)) w.passes)
+      and_from (table_fits n (room_of b)) (joints_fit n b)
+      (and_from (within 2 64 n) _ (range_make 2 64 n w.n_low w.n_high)
+      (and_from (not (refuses (table_reply n (table_of b)))) _ (ap (λ (r : Reply). not (refuses r)) w.passes)
       (all_zero_lem (drop (n * n) (room_of b)) (λ i. behind_table i ∙ w.zeros _ (omega arith)))))
       (joints_together n b (record { v_low = w.v_low; v_high = w.v_high; well = w.well }))
 
@@ -133,23 +133,23 @@ module _ (b : List ℕ) where
       let formed = test_passed (well_formed b) _ _ _ _ sized.1 in
       record { size = eqb-true (length b) block_size sized.0; well = taken_apart b formed.0 }
 
-  pub wrong_size : (length b ≡ block_size → ⊥) → block_reply b ≡ Refused BadSize 0
+  pub wrong_size : (length b ≡ block_size → ⊥) → block_reply b ≡ refusal BadSize 0
   unfolding block_reply
   wrong_size d = test_here _ _ _ _ _ (ne_eqb (length b) block_size d)
 
-  pub not_well : length b ≡ block_size → well_formed b ≡ false → block_reply b ≡ Refused BadBlock 0
+  pub not_well : length b ≡ block_size → well_formed b ≡ false → block_reply b ≡ refusal BadBlock 0
   unfolding block_reply
   not_well e w = test_next _ _ _ _ _ (eq-eqb (length b) block_size e) ∙ test_here _ _ _ _ _ w
 
-  pub all_well : length b ≡ block_size → well_formed b ≡ true → block_reply b ≡ Done 0
+  pub all_well : length b ≡ block_size → well_formed b ≡ true → block_reply b ≡ Ok 0
   unfolding block_reply
-  all_well e w = test_next _ _ _ _ _ (eq-eqb (length b) block_size e) ∙ test_next _ _ _ _ _ w ∙ first_none (Done 0)
+  all_well e w = test_next _ _ _ _ _ (eq-eqb (length b) block_size e) ∙ test_next _ _ _ _ _ w ∙ first_none (Ok 0)
 
-pub block_done : {b : List ℕ} → GoodBlock b → block_reply b ≡ Done 0
+pub block_done : {b : List ℕ} → GoodBlock b → block_reply b ≡ Ok 0
 block_done {b} g = all_well b g.size (put_together b g.well)
 
 -- a call that goes on past the reply to its block has a good block
-pub call_goes_on : (b : List ℕ) (next : Reply) → first_refusal (block_reply b ∷ []) next ≡ Done 0 → GoodBlock b × (next ≡ Done 0)
+pub call_goes_on : (b : List ℕ) (next : Reply) → first_refusal (block_reply b ∷ []) next ≡ Ok 0 → GoodBlock b × (next ≡ Ok 0)
 call_goes_on b next e =
     let passed = first_passed (block_reply b) [] next (ap refuses e) in
     (good_block b passed.0, sym (first_next (block_reply b) [] next passed.0 ∙ first_none next) ∙ e)

@@ -7,9 +7,10 @@ ghost use Rattle.joints.specs.Layout.{kinds_of};
 ghost use Rattle.blocks.specs.Layout.{block_size, table_of, fresh_block};
 ghost use Rattle.blocks.specs.WellFormed.{well_formed, block_reply};
 
-use joints::SESSION;
-use replies::{Cause, Reply};
+pub use block::Block;
+use joints::{SESSION, Session};
 
+mod block;
 mod table;
 
 // How many bytes a block has.
@@ -22,12 +23,12 @@ pub fn has_size(block: &[u8]) -> bool
     block.len() == BLOCK
 }
 
-// The kind table, n × n bytes.
+// The kind table, n × n bytes, of bytes that are written to behind it, so that no `Block` can hold them.
 pub fn kind_table(block: &[u8]) -> &[u8]
     requires { (length block.now ≡ block_size) × (kinds_of block.now ≤ 64) }
     ensures { result.now ≡ table_of block.now }
 {
-    let n = joints::kind_count(block) as usize;
+    let n = usize::from(Session::of(block).kind_count());
     let end = SESSION + n * n;
     &block[SESSION..end]
 }
@@ -37,24 +38,9 @@ fn well_formed(block: &[u8]) -> bool
     requires { length block.now ≡ block_size }
     ensures { result ≡ well_formed block.now }
 {
-    let n = joints::kind_count(block) as usize;
-    if !table::table_fits(&block[SESSION..BLOCK], n) {
-        return false;
-    }
-    fitting::joints_fit(block, n)
-}
-
-// 1 where the block has not its size, 4 where it is not well formed, done otherwise.
-pub fn block_reply(block: &[u8]) -> Reply
-    ensures { result ≡ block_reply block.now }
-{
-    if !has_size(block) {
-        return Reply::Refused(Cause::BadSize, 0);
-    }
-    if !well_formed(block) {
-        return Reply::Refused(Cause::BadBlock, 0);
-    }
-    Reply::Done(0)
+    let session = Session::of(block);
+    let n = usize::from(session.kind_count());
+    table::table_fits(&block[SESSION..BLOCK], n) && fitting::joints_fit(&session, n)
 }
 
 // Writes the whole block as opening leaves it.

@@ -3,20 +3,22 @@ ghost use Rattle.std.specs.Prelude.{◌≡◌, ◌≤◌, length};
 ghost use Rattle.blocks.specs.Layout.{table_room, room_with};
 ghost use Rattle.blocks.specs.WellFormed.{table_fits};
 
+use kinds::Table;
+
 // Whether n is in range, the table passes the check of tables, and the bytes behind it are zero.
 pub fn table_fits(room: &[u8], n: usize) -> bool
     requires { length room.now ≡ table_room }
     ensures { result ≡ table_fits n room.now }
 {
-    if !runs::in_range(n, 2, 64) {
+    if !(2..=64).contains(&n) {
         return false;
     }
     let end = n * n;
-    let reply = house::check(&room[..end], n);
-    if replies::is_refusal(reply) {
-        return false;
-    }
-    runs::is_zero(&room[end..])
+    let table = Table {
+        entries: &room[..end],
+        n,
+    };
+    house::check(table).is_ok() && runs::is_zero(&room[end..])
 }
 
 // The table, and zeros behind it.
@@ -24,6 +26,6 @@ pub fn write_table(room: &mut [u8], table: &[u8])
     requires { (length room.old ≡ table_room) × (length table.now ≤ table_room) }
     ensures { room.new ≡ room_with table.now }
 {
-    runs::copy(&mut room[..table.len()], table);
-    runs::repeat(&mut room[table.len()..], 0);
+    room[..table.len()].copy_from_slice(table);
+    room[table.len()..].fill(0);
 }

@@ -1,7 +1,7 @@
 -- The fast look: what its loops have seen of the bytes they passed, what that tells of each part of the session's own bytes, and that where
 -- the three parts are as it wants, the form is well formed and each joint fits.
 -- Assumes nothing.
-use Rattle.std.proofs.Common.{◌≡◌, ℕ, ◌+◌, ◌-◌, ◌*◌, ◌%◌, ◌<◌, ◌≤◌, true, ◌⊎◌, List, length, get_or, take, drop, sym, ap, ◌∙◌, inl, inr, ⊎_elim, arith, length-drop, length-take-le, take_all, get_or-take}
+use Rattle.std.proofs.Common.{◌≡◌, ℕ, ◌+◌, ◌-◌, ◌*◌, ◌%◌, ◌<◌, ◌≤◌, true, ◌⊎◌, List, length, get_or, take, drop, sym, ap, ◌∙◌, inl, inr, ⊎_elim, arith, get_or-take}
 use mathlib.Core.Logic.{by_cases}
 use native.Mathlib.Decide.{ℕ_discrete, dec_lt}
 use Rattle.runs.specs.Runs.{all_zero, each}
@@ -38,22 +38,21 @@ module _ {more most i : ℕ} {xs : List ℕ} (l : Seen more most i xs) where
   pub all_seen : length xs ≤ i → AtMost more most xs
   all_seen h = record { byte = λ k g. l.byte k (omega arith); below = λ k g. l.below k (omega arith) }
 
--- a part of the session's own bytes has its size
-pub part_size : (start size : ℕ) {p : List ℕ} (b : List ℕ) → p ≡ take size (drop start b) → start + size ≤ length b → length p ≡ size
-part_size start size b e h = ap length e ∙ length-take-le size (drop start b) (omega (arith, length-drop start b))
+-- p is the first m bytes of the run xs, and q what stands behind them
+pub record Split (m : ℕ) (xs p q : List ℕ) : Type 0 where
+  pub size : length p ≡ m
+  pub front : p ≡ take m xs
+  pub back : q ≡ drop m xs
 
--- a run p of at least m bytes: its first m, and zeros behind them
-module _ {p xs : List ℕ} (e : p ≡ xs) (m : ℕ) where
-  front : (i : ℕ) → i < m → get_or (take m p) i 0 ≡ get_or xs i 0
-  front i h = get_or-take m p i 0 h ∙ ap (λ (ys : List ℕ). get_or ys i 0) e
+pub split : (m : ℕ) {xs ys p q : List ℕ} → ys ≡ xs → length p ≡ m → p ≡ take m ys → q ≡ drop m ys → Split m xs p q
+split m e l f b = record { size = l; front = f ∙ ap (take m) e; back = b ∙ ap (drop m) e }
 
-  behind : all_zero (take (length p - m) (drop m p)) ≡ true → (i : ℕ) → m ≤ i → get_or xs i 0 ≡ 0
-  behind z i h =
-      let whole = take_all (length p - m) (drop m p) (omega (arith, length-drop m p)) in
-      sym (ap (λ (ys : List ℕ). get_or ys i 0) e) ∙ byte_from m p i h ∙ zero_at (drop m p) (rw whole at z) (i - m)
+module _ {m : ℕ} {xs p q : List ℕ} (s : Split m xs p q) where
+  front : (i : ℕ) → i < m → get_or p i 0 ≡ get_or xs i 0
+  front i h = ap (λ (ys : List ℕ). get_or ys i 0) s.front ∙ get_or-take m xs i 0 h
 
-  inside : m ≤ length p → (i : ℕ) → i < m → i < length (take m p)
-  inside g i h = omega (arith, length-take-le m p g)
+  behind : all_zero q ≡ true → (i : ℕ) → m ≤ i → get_or xs i 0 ≡ 0
+  behind z i h = byte_from m xs i h ∙ sym (ap (λ (ys : List ℕ). get_or ys (i - m) 0) s.back) ∙ zero_at q z (i - m)
 
 -- a byte that is at most r once 255 is added to it, for an r below 255, is from 1 to r + 1; one that is at most v once 1 is added to it is 255
 -- or below v
@@ -63,44 +62,41 @@ less_one b h d = (omega arith, omega arith)
 one_more : {x v : ℕ} → x < 256 → (x + 1) % 256 ≤ v → (x ≡ 255) ⊎ (x < v)
 one_more {x} b h = by_cases (ℕ_discrete x 255) (λ e. inl e) (λ d. inr (omega arith))
 
-module _ (b : List ℕ) {p : List ℕ} (v : ℕ) where
-  pub classes_apart :
-      p ≡ classes_of b → v ≤ length p → take v p ≡ each (λ j. j) 0 (length (take v p)) → all_zero (take (length p - v) (drop v p)) ≡ true → ClassesApart v (block_form b)
-  classes_apart e g s z =
+module _ (b : List ℕ) {p q : List ℕ} (v : ℕ) where
+  pub classes_apart : Split v (classes_of b) p q → p ≡ each (λ j. j) 0 (length p) → all_zero q ≡ true → ClassesApart v (block_form b)
+  classes_apart s e z =
       record {
         own = λ j h.
-            sym (front e v j h) ∙ ap (λ (ys : List ℕ). get_or ys j 0) s ∙ each_at (λ j. j) (length (take v p)) j (inside e v g j h);
-        rest = behind e v z;
+            sym (front s j h) ∙ ap (λ (ys : List ℕ). get_or ys j 0) e ∙ each_at (λ j. j) (length p) j (omega (arith, s.size));
+        rest = behind s z;
       }
 
   pub kinds_apart :
-      {n r : ℕ} → p ≡ joint_kinds_of b → v ≤ length p → AtMost 255 r (take v p) → r < 255 → r + 1 < n →
-      all_zero (take (length p - v) (drop v p)) ≡ true → KindsApart n v (block_form b)
-  kinds_apart {n} {r} e g s d h z =
+      {n r : ℕ} → Split v (joint_kinds_of b) p q → AtMost 255 r p → r < 255 → r + 1 < n → all_zero q ≡ true → KindsApart n v (block_form b)
+  kinds_apart {n} {r} s a d h z =
       record {
         low = λ j i. (in_range j i).0;
         high = λ j i. omega (arith, (in_range j i).1);
-        rest = behind e v z;
+        rest = behind s z;
       }
     where
       in_range : (j : ℕ) → j < v → (1 ≤ (block_form b).kind j) × ((block_form b).kind j ≤ r + 1)
       in_range j i =
-          let q = inside e v g j i in
-          rw (front e v j i) at (less_one (s.byte j q) (s.below j q) d)
+          let g : j < length p = omega (arith, s.size) in
+          rw (front s j i) at (less_one (a.byte j g) (a.below j g) d)
 
   pub links_apart :
-      {r : ℕ} → p ≡ rows_of b → 16 * v ≤ length p → AtMost 1 r (take (16 * v) p) → r ≤ v → all_zero (take (length p - 16 * v) (drop (16 * v) p)) ≡ true →
-      LinksApart v (block_form b)
-  links_apart {r} e g s f z =
+      {r : ℕ} → Split (16 * v) (rows_of b) p q → AtMost 1 r p → r ≤ v → all_zero q ≡ true → LinksApart v (block_form b)
+  links_apart {r} s a f z =
       record {
         end = λ j l h k. in_range (j * 16 + l) (omega arith);
-        rest = λ j l h k. behind e (16 * v) z (j * 16 + l) (omega arith);
+        rest = λ j l h k. behind s z (j * 16 + l) (omega arith);
       }
     where
       in_range : (i : ℕ) → i < 16 * v → (get_or (rows_of b) i 0 ≡ unknown) ⊎ (get_or (rows_of b) i 0 < v)
       in_range i h =
-          let q = inside e (16 * v) g i h in
-          rw (front e (16 * v) i h) at (one_more {v = v} (s.byte i q) (omega (arith, s.below i q)))
+          let g : i < length p = omega (arith, s.size) in
+          rw (front s i h) at (one_more {v = v} (a.byte i g) (omega (arith, a.below i g)))
 
 -- the three parts together
 module _ {n v : ℕ} {S : Form} (c : ClassesApart v S) (k : KindsApart n v S) (r : LinksApart v S) (some : 1 ≤ v) where

@@ -11,15 +11,16 @@ use Rattle.joints.specs.Layout.{joints_of, block_form}
 use Rattle.joints.proofs.Parts.{Ends, block_ends}
 use Rattle.runs.specs.Runs.{within}
 use Rattle.fitting.specs.Fits.{all, smallest, class_fits, kind_fits, link_fits, joint_fits, joints_fit}
-use Rattle.fitting.proofs.Tests.{both, left, right, either, or_right, chosen, then, else, range_use, range_make, all_use, all_make}
+use Rattle.fitting.proofs.Tests.{or_right, chosen, then, else, range_use, range_make, all_use, all_make}
+use Rattle.std.proofs.lemmas.Bool.{and_from, or_cases, and_parts}
 
 module _ (n v : ℕ) (S : Form) where
   smallest_use : (j : ℕ) → smallest v S j ≡ true → Smallest v S j
   smallest_use j e =
-      (ltb-true _ _ (left (ltb j v) (eqb (S.class j) j) e), eqb-true _ _ (right (ltb j v) (eqb (S.class j) j) e))
+      (ltb-true _ _ (and_parts (ltb j v) (eqb (S.class j) j) e).0, eqb-true _ _ (and_parts (ltb j v) (eqb (S.class j) j) e).1)
 
   smallest_make : (j : ℕ) → Smallest v S j → smallest v S j ≡ true
-  smallest_make j h = both (ltb j v) (eqb (S.class j) j) (lt-ltb _ _ h.0) (eq-eqb _ _ h.1)
+  smallest_make j h = and_from (ltb j v) (eqb (S.class j) j) (lt-ltb _ _ h.0) (eq-eqb _ _ h.1)
 
   smallest_not : (j : ℕ) → (Smallest v S j → ⊥) → smallest v S j ≡ false
   smallest_not j d = is_false (smallest v S j) (λ e. d (smallest_use j e))
@@ -37,17 +38,17 @@ module _ (n v : ℕ) (S : Form) where
   -- where every joint fits, the form is well formed
   module _ (fits : (j : ℕ) → j < 64 → joint_fits n v S j ≡ true) where
     class_fits_lem : (j : ℕ) → j < 64 → class_fits v S j ≡ true
-    class_fits_lem j h = left (class_fits v S j) (kind_fits n v S j && all (link_fits v S j) 0 16) (fits j h)
+    class_fits_lem j h = (and_parts (class_fits v S j) (kind_fits n v S j && all (link_fits v S j) 0 16) (fits j h)).0
 
     rest_fits : (j : ℕ) → j < 64 → (kind_fits n v S j && all (link_fits v S j) 0 16) ≡ true
-    rest_fits j h = right (class_fits v S j) (kind_fits n v S j && all (link_fits v S j) 0 16) (fits j h)
+    rest_fits j h = (and_parts (class_fits v S j) (kind_fits n v S j && all (link_fits v S j) 0 16) (fits j h)).1
 
     kind_fits_lem : (j : ℕ) → j < 64 → kind_fits n v S j ≡ true
-    kind_fits_lem j h = left (kind_fits n v S j) (all (link_fits v S j) 0 16) (rest_fits j h)
+    kind_fits_lem j h = (and_parts (kind_fits n v S j) (all (link_fits v S j) 0 16) (rest_fits j h)).0
 
     link_fits_lem : (j l : ℕ) → j < 64 → l < 16 → link_fits v S j l ≡ true
     link_fits_lem j l h b =
-        all_use (link_fits v S j) 0 16 (right (kind_fits n v S j) (all (link_fits v S j) 0 16) (rest_fits j h)) l (omega arith) (omega arith)
+        all_use (link_fits v S j) 0 16 (and_parts (kind_fits n v S j) (all (link_fits v S j) 0 16) (rest_fits j h)).1 l (omega arith) (omega arith)
 
     in_range : (j : ℕ) → j < 64 → Smallest v S j → (leb 1 (S.kind j) && ltb (S.kind j) n) ≡ true
     in_range j h s = then (smallest v S j) _ (eqb (S.kind j) 0) (smallest_make j s) (kind_fits_lem j h)
@@ -72,18 +73,18 @@ module _ (n v : ℕ) (S : Form) where
       fits_well : Well n v S
       fits_well =
           record {
-            class_le = λ j h. leb-true _ _ (left (leb (S.class j) j) _ (numbered j (omega arith) h));
-            class_smallest = λ j h. (smallest_use _ (right (leb (S.class j) j) _ (numbered j (omega arith) h))).1;
+            class_le = λ j h. leb-true _ _ (and_parts (leb (S.class j) j) _ (numbered j (omega arith) h)).0;
+            class_smallest = λ j h. (smallest_use _ (and_parts (leb (S.class j) j) _ (numbered j (omega arith) h)).1).1;
             kind_some = λ j s z.
-                let g : 1 ≤ S.kind j = leb-true _ _ (left (leb 1 (S.kind j)) _ (in_range j (omega arith) s)) in
+                let g : 1 ≤ S.kind j = leb-true _ _ (and_parts (leb 1 (S.kind j)) _ (in_range j (omega arith) s)).0 in
                 omega arith;
             kind_in = λ j.
                 by_smallest j
-                (λ s. ltb-true _ _ (right (leb 1 (S.kind j)) _ (in_range j (omega arith) s)))
+                (λ s. ltb-true _ _ (and_parts (leb 1 (S.kind j)) _ (in_range j (omega arith) s)).1)
                 (λ d. omega (arith, kind_rest j d));
             link_smallest = λ j l s b.
                 ⊎_elim (λ e. inl (eqb-true _ _ e)) (λ e. inr (smallest_use _ e))
-                (either (eqb (S.link j l) unknown) _
+                (or_cases (eqb (S.link j l) unknown) _
                 (then (smallest v S j) _ (eqb (S.link j l) 0) (smallest_make j s) (link_fits_lem j l (omega arith) b)));
             kind_rest = kind_rest;
             link_rest = link_rest;
@@ -96,18 +97,18 @@ module _ (n v : ℕ) (S : Form) where
   -- in a well-formed form every joint fits
   pub well_fits : Well n v S → (j : ℕ) → joint_fits n v S j ≡ true
   well_fits w j =
-      both (class_fits v S j) (kind_fits n v S j && all (link_fits v S j) 0 16)
+      and_from (class_fits v S j) (kind_fits n v S j && all (link_fits v S j) 0 16)
       (chosen (ltb j v) _ (eqb (S.class j) 0)
       (λ e.
       let h : j < v = ltb-true _ _ e in
-      both (leb (S.class j) j) _ (le-leb _ _ (w.class_le j h))
+      and_from (leb (S.class j) j) _ (le-leb _ _ (w.class_le j h))
       (smallest_make _ (omega (arith, w.class_le j h), w.class_smallest j h)))
       (λ e. eq-eqb _ _ (w.class_rest j (ltb-false _ _ e))))
-      (both (kind_fits n v S j) (all (link_fits v S j) 0 16)
+      (and_from (kind_fits n v S j) (all (link_fits v S j) 0 16)
       (chosen (smallest v S j) _ (eqb (S.kind j) 0)
       (λ e.
       let some : S.kind j ≢ 0 = w.kind_some j (smallest_use j e) in
-      both (leb 1 (S.kind j)) _ (le-leb 1 (S.kind j) (omega arith)) (lt-ltb _ _ (w.kind_in j)))
+      and_from (leb 1 (S.kind j)) _ (le-leb 1 (S.kind j) (omega arith)) (lt-ltb _ _ (w.kind_in j)))
       (λ e. eq-eqb _ _ (w.kind_rest j (not_smallest j e))))
       (all_make (link_fits v S j) 0 16
       (λ l a b.
@@ -131,13 +132,13 @@ module _ (n : ℕ) (b : List ℕ) where
   unfolding joints_fit
   joints_apart low e =
       let v = joints_of b in
-      let in_v = range_use 1 64 v (left (within 1 64 v) each_fits e) in
+      let in_v = range_use 1 64 v (and_parts (within 1 64 v) each_fits e).0 in
       record {
         v_low = in_v.0;
         v_high = in_v.1;
         well =
             fits_well n v (block_form b)
-            (λ j h. all_use (joint_fits n v (block_form b)) 0 64 (right (within 1 64 v) each_fits e) j (omega arith) (omega arith))
+            (λ j h. all_use (joint_fits n v (block_form b)) 0 64 (and_parts (within 1 64 v) each_fits e).1 j (omega arith) (omega arith))
             low in_v.1 (block_ends b);
       }
     where
@@ -148,5 +149,5 @@ module _ (n : ℕ) (b : List ℕ) where
   unfolding joints_fit
   joints_together w =
       let v = joints_of b in
-      both (within 1 64 v) _ (range_make 1 64 v w.v_low w.v_high)
+      and_from (within 1 64 v) _ (range_make 1 64 v w.v_low w.v_high)
       (all_make (joint_fits n v (block_form b)) 0 64 (λ j _ _. well_fits n v (block_form b) w.well j))

@@ -1,60 +1,24 @@
--- A word has the eight bytes that it is read from; so a run of bytes that differs from words in no bit has their bytes. A table of 1,089 bytes is
+-- A run of bytes that differs from words in no bit has their bytes. A table of 1,089 bytes is
 -- two such runs and a last byte.
 -- Assumes nothing.
 use mathlib.Core.Path.{◌≡◌, refl, sym, ap, ap₂, ◌∙◌}
 use mathlib.Core.List.{List, [], ◌∷◌, ◌++◌, append_assoc, append-nil}
-use Prim.Native.Nat.{ℕ, suc, ◌+◌, ◌*◌, ◌/◌, ◌%◌, ◌≤◌, ◌<◌}
+use Prim.Native.Nat.{ℕ, ◌+◌, ◌*◌, ◌≤◌, ◌<◌}
 use native.Mathlib.Omega.{arith}
 use native.Mathlib.Numerals.{add-one}
 use lib.Bits.{bit_or, bit_xor}
 use lib.ListN.{length, get_or, take, drop}
 use lib.Seq.{take_all, take-add, take-suc, drop-cons, drop-drop}
 use Rattle.runs.proofs.Loops.{or_none, xor_none}
-use Rattle.house.specs.Words.{lowest_bytes, bytes_of, Half, Word}
-
--- the lowest byte, and those above it
-lowest : (b rest count : ℕ) → b < 256 → lowest_bytes (suc count) (b + 256 * rest) ≡ b ∷ lowest_bytes count rest
-unfolding lowest_bytes
-lowest b rest count h =
-    let m : (b + 256 * rest) % 256 ≡ b = omega arith in
-    let d : (b + 256 * rest) / 256 ≡ rest = omega arith in
-    ap₂ (λ (x y : ℕ). x ∷ lowest_bytes count y) m d
-
--- one byte, and four, before those of the number `rest`
-module _ (p : List ℕ) where
-  one_before :
-      (at next rest count : ℕ) → next ≡ suc at → at < length p → get_or p at 0 < 256 → take count (drop next p) ≡ lowest_bytes count rest →
-      take (suc count) (drop at p) ≡ lowest_bytes (suc count) (get_or p at 0 + 256 * rest)
-  one_before at next rest count n h small e =
-      let b = get_or p at 0 in
-      ap (take (suc count)) (drop-cons p at 0 h)
-      ∙ ap (λ (j : ℕ). b ∷ take count (drop j p)) (sym n)
-      ∙ ap (◌∷◌ b) e
-      ∙ sym (lowest b rest count small)
-
-  four_before :
-      {half : ℕ} (at rest count : ℕ) → at + 4 ≤ length p → Half p at half → take count (drop (at + 4) p) ≡ lowest_bytes count rest →
-      take (suc (suc (suc (suc count)))) (drop at p) ≡ lowest_bytes (suc (suc (suc (suc count)))) (half + 4294967296 * rest)
-  four_before at rest count h l e =
-      one_before at (at + 1) _ _ (omega arith) (omega arith) l.first
-      (one_before (at + 1) (at + 2) _ _ (omega arith) (omega arith) l.second
-      (one_before (at + 2) (at + 3) _ _ (omega arith) (omega arith) l.third
-      (one_before (at + 3) (at + 4) rest count (omega arith) (omega arith) l.fourth e)))
-      ∙ ap (lowest_bytes (suc (suc (suc (suc count))))) (omega (arith, l.is))
-
-  -- a word has the bytes that it is read from
-  word_bytes : {word : ℕ} (at : ℕ) → at + 8 ≤ length p → Word p at word → take 8 (drop at p) ≡ lowest_bytes 8 word
-  unfolding lowest_bytes
-  word_bytes at h w =
-      four_before at _ 4 (omega arith) w.lower (four_before (at + 4) 0 0 (omega arith) w.upper refl)
-      ∙ ap (lowest_bytes 8) (omega (arith, w.is))
+use Rattle.std.specs.Int.{w64, to_le_bytes}
+use Rattle.house.specs.Words.{bytes_of}
 
 -- one word more
-bytes_more : (words : List ℕ) (word : ℕ) → bytes_of (words ++ (word ∷ [])) ≡ bytes_of words ++ lowest_bytes 8 word
+bytes_more : (words : List ℕ) (word : ℕ) → bytes_of (words ++ (word ∷ [])) ≡ bytes_of words ++ to_le_bytes w64 word
 unfolding bytes_of
-bytes_more [] word = append-nil (lowest_bytes 8 word)
+bytes_more [] word = append-nil (to_le_bytes w64 word)
 bytes_more (w ∷ ws) word =
-    ap (λ (l : List ℕ). lowest_bytes 8 w ++ l) (bytes_more ws word) ∙ sym (append_assoc (lowest_bytes 8 w) (bytes_of ws) (lowest_bytes 8 word))
+    ap (λ (l : List ℕ). to_le_bytes w64 w ++ l) (bytes_more ws word) ∙ sym (append_assoc (to_le_bytes w64 w) (bytes_of ws) (to_le_bytes w64 word))
 
 -- a loop at i that has gathered in `any` the bits in which the bytes differ from those of the words before the i-th
 pub record Differing (bytes words : List ℕ) (i any : ℕ) : Type 0 where
@@ -67,15 +31,15 @@ none_read e = record { size = e; same = λ _. refl }
 
 module _ {bytes words : List ℕ} {i any : ℕ} (l : Differing bytes words i any) where
   pub more_read :
-      {word : ℕ} → i < length words → Word bytes (8 * i) word → Differing bytes words (i + 1) (bit_or any (bit_xor word (get_or words i 0)))
-  more_read {word} h w =
+      (word : ℕ) → i < length words → to_le_bytes w64 word ≡ take 8 (drop (8 * i) bytes) → Differing bytes words (i + 1) (bit_or any (bit_xor word (get_or words i 0)))
+  more_read word h w =
       let x = get_or words i 0 in
       record {
         size = l.size;
         same = λ e.
             let z = or_none any (bit_xor word x) e in
-            let here : take 8 (drop (8 * i) bytes) ≡ lowest_bytes 8 x =
-            word_bytes bytes (8 * i) (omega (arith, l.size)) w ∙ ap (lowest_bytes 8) (xor_none word x z.1) in
+            let here : take 8 (drop (8 * i) bytes) ≡ to_le_bytes w64 x =
+            sym w ∙ ap (to_le_bytes w64) (xor_none word x z.1) in
             let next : 8 * (i + 1) ≡ 8 * i + 8 = omega arith in
             ap (λ (j : ℕ). take j bytes) next
             ∙ take-add (8 * i) 8 bytes

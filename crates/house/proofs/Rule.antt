@@ -10,11 +10,11 @@ use native.Mathlib.Omega.{arith}
 use lib.Dec.{T, eqb, eqb→eq, ltb, ltb→lt}
 use lib.ListN.{get_or, length}
 use lib.Arith.{digits_div, digits_mod, digits_lt}
+use Rattle.std.specs.Prelude.{Ok}
 use Rattle.kinds.specs.Kinds.{Under, meet_at}
 use Rattle.kinds.specs.Laws.{Lawful, Greatest}
 use Rattle.kinds.specs.Sizes.{Sized}
 use Rattle.kinds.proofs.Order.{greatest_lawful, greatest_one}
-use Rattle.replies.specs.declared.Reply.TheVariants.{Done}
 use Rattle.tables.specs.Check.{table_reply}
 use Rattle.tables.proofs.Lawfulness.{lawful_passes}
 use Rattle.house.specs.Parents.{parents, parent_at, UnderByParents}
@@ -63,7 +63,7 @@ house_rule i j hi hj =
 pub house_lawful : Lawful 33 (meet_at 33 house_table)
 house_lawful = greatest_lawful (omega arith) house_ordered house_rule
 
-pub house_passes : table_reply 33 house_table ≡ Done 0
+pub house_passes : table_reply 33 house_table ≡ Ok 0
 house_passes = lawful_passes 33 house_table (omega arith) house_lawful
 
 -- a table of 33 kinds has as many bytes as the house table, and passes if it is that one
@@ -71,7 +71,7 @@ module _ {n : ℕ} {table : List ℕ} (e : n ≡ 33) where
   pub house_size : Sized n table → length table ≡ 1089
   house_size sized = sized.size ∙ ap (λ (k : ℕ). k * k) e
 
-  pub house_told : table ≡ house_table → Done 0 ≡ table_reply n table
+  pub house_told : table ≡ house_table → Ok 0 ≡ table_reply n table
   house_told same = sym (ap₂ table_reply e same ∙ house_passes)
 
 pub house_under : (s t : ℕ) → s < 33 → t < 33 → Under (meet_at 33 house_table) s t ↔ UnderByParents s t

@@ -2,11 +2,11 @@
 #![tactic(auto)]
 
 ghost use Rattle.std.specs.Prelude.{◌≡◌, ◌<◌};
-ghost use Rattle.kinds.specs.Sizes.{Sized};
 ghost use Rattle.tables.specs.Check.{table_reply};
 ghost use Rattle.house.specs.Parents.{parents, parent_at};
 ghost use Rattle.house.specs.Meets.{house_table};
 
+use kinds::Table;
 use replies::Reply;
 
 mod words;
@@ -100,14 +100,12 @@ pub fn table() -> [u8; 1089]
 }
 
 // What the check of a table finds. The house table passes, so that its laws need not be looked at where the bytes are its own.
-pub fn check(table: &[u8], n: usize) -> Reply
-    requires { Sized n table.now }
-    ensures { result ≡ table_reply n table.now }
+#[tactic(auto, using(crate::proofs::Rule::house_told))]
+pub fn check(table: Table<'_>) -> Reply
+    ensures { result ≡ table_reply table.entry.n table.entry.entries.now }
 {
-    if n == 33 {
-        if words::is_house(table) {
-            return Reply::Done(0);
-        }
+    if table.n == 33 && words::is_house(table.entries) {
+        return Ok(0);
     }
-    tables::check(table, n)
+    tables::check(table)
 }

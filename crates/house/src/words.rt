@@ -1,10 +1,10 @@
 // Whether a table is the house table: "yes" is proved, "no" says nothing. A constant is laid out on the stack where its function starts, element by
 // element, which for 1,089 bytes takes longer than to compare them. So the table stands here as words of eight bytes, and these are compared in two
-// halves, each short enough for the compiler to unroll its loop: the words are then part of the code, and nothing is laid out. (The bytes of a word
-// are read in `half_at` itself and put together by sums, so that they are one load.)
-ghost use Rattle.std.specs.Prelude.{◌≡◌, true, ◌+◌, ◌*◌, ◌<◌, ◌≤◌, length};
+// halves, each short enough for the compiler to unroll its loop: the words are then part of the code, and nothing is laid out.
+ghost use Rattle.std.specs.Prelude.{◌≡◌, true, ◌+◌, ◌*◌, ◌≤◌, length, take, drop};
+ghost use Rattle.std.specs.Int.{w64, to_le_bytes};
 ghost use Rattle.house.specs.Meets.{house_table};
-ghost use Rattle.house.specs.Words.{bytes_of, Half, Word};
+ghost use Rattle.house.specs.Words.{bytes_of};
 
 // The house table without its last byte: eight bytes a word, the first the lowest. That these are its bytes is computed in the proof of `is_house`.
 const WORDS: [u64; 136] = [
@@ -146,29 +146,19 @@ const WORDS: [u64; 136] = [
     0x0000000000000000,
 ];
 
-fn wide(x: u8) -> u64
-    ensures { (result ≡ x) × (result < 256) }
+// Eight bytes as one number, the first the lowest.
+fn word_of(eight: [u8; 8]) -> u64
+    ensures { to_le_bytes w64 result ≡ eight }
 {
-    x as u64
+    u64::from_le_bytes(eight)
 }
 
-// The four bytes at a place, the first the lowest.
-fn half_at(bytes: &[u8], at: usize) -> u64
-    requires { at + 4 ≤ length bytes.now }
-    ensures { Half bytes.now at result }
-{
-    wide(bytes[at])
-        + 256 * wide(bytes[at + 1])
-        + 65536 * wide(bytes[at + 2])
-        + 16777216 * wide(bytes[at + 3])
-}
-
-// The eight bytes at a place, the first the lowest.
+// The eight bytes at a place.
 fn word_at(bytes: &[u8], at: usize) -> u64
     requires { at + 8 ≤ length bytes.now }
-    ensures { Word bytes.now at result }
+    ensures { to_le_bytes w64 result ≡ take 8 (drop at bytes.now) }
 {
-    half_at(bytes, at) + 4294967296 * half_at(bytes, at + 4)
+    word_of(bytes[at..at + 8].try_into().unwrap())
 }
 
 // The bits in which bytes differ from those of words, all gathered.
@@ -177,8 +167,8 @@ fn differing(bytes: &[u8], words: &[u64]) -> u64
     ensures { result ≡ 0 → bytes.now ≡ bytes_of words.now }
 {
     let mut any = 0u64;
-    for i in 0..words.len() {
-        any = any | (word_at(bytes, 8 * i) ^ words[i]);
+    for (i, &word) in words.iter().enumerate() {
+        any |= word_at(bytes, 8 * i) ^ word;
     }
     any
 }
@@ -191,6 +181,6 @@ pub fn is_house(table: &[u8]) -> bool
     let words = &WORDS[..];
     let any = differing(&table[..544], &words[..68])
         | differing(&table[544..1088], &words[68..])
-        | (wide(table[1088]) ^ 32);
+        | (u64::from(table[1088]) ^ 32);
     any == 0
 }

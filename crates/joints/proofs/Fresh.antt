@@ -1,7 +1,7 @@
 -- The session's own bytes as opening writes them, whatever stands behind them: their form, that it is well formed, and that it tells no
 -- fact. Its parts are read off as those of any bytes made of their parts.
 -- Assumes nothing.
-use mathlib.Core.Path.{◌≡◌, refl, ap, ◌∙◌}
+use mathlib.Core.Path.{◌≡◌, refl, sym, ap, ◌∙◌}
 use mathlib.Core.Logic.{by_cases, inl}
 use mathlib.Core.Bool.{cond}
 use mathlib.Core.List.{List, [], ◌∷◌, ◌++◌, map, append_assoc}
@@ -10,7 +10,7 @@ use native.Mathlib.Omega.{arith}
 use native.Mathlib.Decide.{dec_lt}
 use lib.Dec.{ltb}
 use lib.ListN.{length, get_or, drop, replicate, length-append, length-replicate, get_or-replicate, get_or-append}
-use lib.Seq.{drop_at}
+use lib.Seq.{drop_at, ext_get_or}
 use borrow.Author.Tests.{eq-eqb, lt-ltb, le-ltb}
 use Rattle.meaning.specs.Picture.{rename}
 use Rattle.meaning.specs.Form.{Form, unknown, links_from, facts_at, facts_from, rig_joint, taken_facts, classes}
@@ -82,6 +82,32 @@ module _ (v j a : ℕ) where
 
   behind : v ≤ j → cond (ltb j v) a 0 ≡ 0
   behind h = rw (le-ltb j v h)
+
+-- the class number of a joint, and of a number that is none
+pub own_class : (v j : ℕ) → j < 64 → j < v → j ≡ get_or (own_classes v) j 0
+own_class v j h g = sym (each_at (λ k. cond (ltb k v) k 0) 64 j h ∙ below v j j g)
+
+pub no_class : (v j : ℕ) → j < 64 → v ≤ j → 0 ≡ get_or (own_classes v) j 0
+no_class v j h g = sym (each_at (λ k. cond (ltb k v) k 0) 64 j h ∙ behind v j j g)
+
+-- the kinds, written as ones and then zeros
+pub ones_then_zeros : (v : ℕ) → v ≤ 64 → replicate v 1 ++ replicate (64 - v) 0 ≡ any_kinds v
+ones_then_zeros v high =
+    ext_get_or 0 (replicate v 1 ++ replicate (64 - v) 0) (any_kinds v) (size ∙ sym (each_length _ 0 64))
+    (λ j h. same j (omega (arith, size)))
+  where
+    size : length {A = ℕ} (replicate v 1 ++ replicate (64 - v) 0) ≡ 64
+    size = simp (length-append, length-replicate) (omega arith)
+
+    same : (j : ℕ) → j < 64 → get_or (replicate v 1 ++ replicate (64 - v) 0) j 0 ≡ get_or (any_kinds v) j 0
+    same j h =
+        by_cases (dec_lt j v)
+        (λ g.
+        get_or-append (replicate v 1) (replicate (64 - v) 0) 0 j (simp length-replicate (omega arith)) ∙ get_or-replicate v j 1 0 g
+        ∙ sym (each_at (λ k. cond (ltb k v) 1 0) 64 j h ∙ below v j 1 g))
+        (λ d.
+        zeros_behind (replicate v 1) (64 - v) j (simp length-replicate (omega arith))
+        ∙ sym (each_at (λ k. cond (ltb k v) 1 0) 64 j h ∙ behind v j 1 (omega arith)))
 
 rows_length : (v : ℕ) → v ≤ 64 → length (no_links v) ≡ 1024
 rows_length v high = simp (length-append, length-replicate) (omega arith)

@@ -2,10 +2,12 @@
 // that knows where each stands; nothing here looks behind them.
 #![tactic(auto)]
 
-ghost use Rattle.std.specs.Prelude.{◌≡◌, cond, [], ◌∷◌, ◌<◌, ◌≤◌, length};
+ghost use Rattle.std.specs.Prelude.{◌≡◌, ◌++◌, ◌-◌, ◌<◌, ◌≤◌, List, ℕ, length, replicate};
 ghost use Rattle.joints.specs.Layout.{session_size, kinds_of, joints_of, classes_of, joint_kinds_of, rows_of, block_form};
 ghost use Rattle.joints.specs.Fresh.{own_classes, any_kinds, no_links, fresh_session};
 ghost use Rattle.joints.specs.Storing.{with_form};
+
+use std::marker::Model;
 
 // Where the class numbers, the kinds and the rows begin.
 const CLASSES: usize = 2;
@@ -17,87 +19,99 @@ const ROWS: usize = 130;
 // How many bytes are the session's own.
 pub const SESSION: usize = 1154;
 
-// n, the number of kinds.
-pub fn kind_count(session: &[u8]) -> u8
-    requires { session_size ≤ length session.now }
-    ensures { result ≡ kinds_of session.now }
-{
-    session[0]
+// The session's own bytes, lent to be read. A clause sees the bytes, and behind the first 1,154 of them whatever was lent with them.
+#[derive(Drop)]
+pub struct Session<'a> {
+    bytes: &'a [u8],
 }
 
-// V, the number of joints.
-pub fn joint_count(session: &[u8]) -> u8
-    requires { session_size ≤ length session.now }
-    ensures { result ≡ joints_of session.now }
-{
-    session[1]
+impl<'a> Model for Session<'a> {
+    ghost Value = { List ℕ };
+
+    ghost view = { λ s. s.bytes.now };
+
+    ghost invariant = { λ s. session_size ≤ length s.bytes.now };
 }
 
-// The class number of each joint.
-pub fn classes(session: &[u8]) -> &[u8]
-    requires { session_size ≤ length session.now }
-    ensures { result.now ≡ classes_of session.now }
-{
-    &session[CLASSES..KINDS]
-}
-
-// The kind of each joint.
-pub fn kinds(session: &[u8]) -> &[u8]
-    requires { session_size ≤ length session.now }
-    ensures { result.now ≡ joint_kinds_of session.now }
-{
-    &session[KINDS..ROWS]
-}
-
-// The row of 16 links of each joint, one behind the other.
-pub fn rows(session: &[u8]) -> &[u8]
-    requires { session_size ≤ length session.now }
-    ensures { result.now ≡ rows_of session.now }
-{
-    &session[ROWS..SESSION]
-}
-
-// The class number of joint j.
-pub fn class_at(session: &[u8], j: usize) -> u8
-    requires { (session_size ≤ length session.now) × (j < 64) }
-    ensures { result ≡ (block_form session.now).class j }
-{
-    session[CLASSES + j]
-}
-
-// The kind of joint j.
-pub fn kind_at(session: &[u8], j: usize) -> u8
-    requires { (session_size ≤ length session.now) × (j < 64) }
-    ensures { result ≡ (block_form session.now).kind j }
-{
-    session[KINDS + j]
-}
-
-// Link l of joint j.
-pub fn link_at(session: &[u8], j: usize, l: usize) -> u8
-    requires { (session_size ≤ length session.now) × (j < 64) × (l < 16) }
-    ensures { result ≡ (block_form session.now).link j l }
-{
-    session[ROWS + (j * 16 + l)]
-}
-
-// The byte x where there is something, else 0.
-fn or_zero(some: bool, x: u8) -> u8
-    ensures { result ≡ cond some x 0 }
-{
-    if some {
-        return x;
+impl<'a> Session<'a> {
+    // Those that the bytes begin with.
+    pub fn of(bytes: &'a [u8]) -> Self
+        requires { session_size ≤ length bytes.now }
+        ensures { result ≡ bytes.now }
+    {
+        Session { bytes }
     }
-    0
+
+    // n, the number of kinds.
+    pub fn kind_count(&self) -> u8
+        ensures { result ≡ kinds_of self.now }
+    {
+        self.bytes[0]
+    }
+
+    // V, the number of joints.
+    pub fn joint_count(&self) -> u8
+        ensures { result ≡ joints_of self.now }
+    {
+        self.bytes[1]
+    }
+
+    // The class number of each joint.
+    pub fn classes(&self) -> &'a [u8]
+        ensures size { length result.now ≡ 64 }
+        ensures bytes { result.now ≡ classes_of self.now }
+    {
+        &self.bytes[CLASSES..KINDS]
+    }
+
+    // The kind of each joint.
+    pub fn kinds(&self) -> &'a [u8]
+        ensures size { length result.now ≡ 64 }
+        ensures bytes { result.now ≡ joint_kinds_of self.now }
+    {
+        &self.bytes[KINDS..ROWS]
+    }
+
+    // The row of 16 links of each joint, one behind the other.
+    pub fn rows(&self) -> &'a [u8]
+        ensures size { length result.now ≡ 1024 }
+        ensures bytes { result.now ≡ rows_of self.now }
+    {
+        &self.bytes[ROWS..SESSION]
+    }
+
+    // The class number of joint j.
+    pub fn class_at(&self, j: usize) -> u8
+        requires { j < 64 }
+        ensures { result ≡ (block_form self.now).class j }
+    {
+        self.classes()[j]
+    }
+
+    // The kind of joint j.
+    pub fn kind_at(&self, j: usize) -> u8
+        requires { j < 64 }
+        ensures { result ≡ (block_form self.now).kind j }
+    {
+        self.kinds()[j]
+    }
+
+    // Link l of joint j: 255 and no None where it is not known, for it is the byte of the block's layout, and is looked at four at once.
+    pub fn link_at(&self, j: usize, l: usize) -> u8
+        requires { (j < 64) × (l < 16) }
+        ensures { result ≡ (block_form self.now).link j l }
+    {
+        self.rows()[j * 16 + l]
+    }
 }
 
-// The numbers of kinds and of joints.
-fn write_sizes(part: &mut [u8], n: u8, v: u8)
-    requires { length part.old ≡ 2 }
-    ensures { part.new ≡ n ∷ v ∷ [] }
+// x in the first `count` places, 0 in the others.
+fn fill_front(part: &mut [u8], count: usize, x: u8)
+    requires { count ≤ length part.old }
+    ensures { part.new ≡ replicate count x ++ replicate (length part.old - count) 0 }
 {
-    part[0] = n;
-    part[1] = v;
+    part[..count].fill(x);
+    part[count..].fill(0);
 }
 
 // Each joint is a class of its own.
@@ -105,19 +119,17 @@ fn write_classes(part: &mut [u8], v: usize)
     requires { length part.old ≡ 64 }
     ensures { part.new ≡ own_classes v }
 {
-    for j in 0..64 {
-        part[j] = or_zero(j < v, j as u8);
+    for (j, class) in part.iter_mut().enumerate() {
+        *class = if j < v { j as u8 } else { 0 };
     }
 }
 
 // Each class has kind 1.
 fn write_kinds(part: &mut [u8], v: usize)
-    requires { length part.old ≡ 64 }
+    requires { (length part.old ≡ 64) × (v ≤ 64) }
     ensures { part.new ≡ any_kinds v }
 {
-    for j in 0..64 {
-        part[j] = or_zero(j < v, 1);
-    }
+    fill_front(part, v, 1);
 }
 
 // No link of any class is known.
@@ -125,8 +137,7 @@ fn write_rows(part: &mut [u8], v: usize)
     requires { (length part.old ≡ 1024) × (v ≤ 64) }
     ensures { part.new ≡ no_links v }
 {
-    runs::repeat(&mut part[..16 * v], 255);
-    runs::repeat(&mut part[16 * v..], 0);
+    fill_front(part, 16 * v, 255);
 }
 
 // Writes all the session's own bytes as opening leaves them.
@@ -134,8 +145,8 @@ pub fn write_fresh(session: &mut [u8], n: u8, v: u8)
     requires { (length session.old ≡ session_size) × (v ≤ 64) }
     ensures { session.new ≡ fresh_session n v }
 {
-    let joints = v as usize;
-    write_sizes(&mut session[0..CLASSES], n, v);
+    let joints = usize::from(v);
+    session[..CLASSES].copy_from_slice(&[n, v]);
     write_classes(&mut session[CLASSES..KINDS], joints);
     write_kinds(&mut session[KINDS..ROWS], joints);
     write_rows(&mut session[ROWS..SESSION], joints);
@@ -147,7 +158,7 @@ pub fn store(session: &mut [u8], classes: &[u8], kinds: &[u8], rows: &[u8])
     requires fact_2 { (64 ≤ length classes.now) × (64 ≤ length kinds.now) × (1024 ≤ length rows.now) }
     ensures { session.new ≡ with_form session.old classes.now kinds.now rows.now }
 {
-    runs::copy(&mut session[CLASSES..KINDS], &classes[..64]);
-    runs::copy(&mut session[KINDS..ROWS], &kinds[..64]);
-    runs::copy(&mut session[ROWS..SESSION], &rows[..1024]);
+    session[CLASSES..KINDS].copy_from_slice(&classes[..64]);
+    session[KINDS..ROWS].copy_from_slice(&kinds[..64]);
+    session[ROWS..SESSION].copy_from_slice(&rows[..1024]);
 }

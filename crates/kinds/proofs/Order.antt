@@ -1,7 +1,7 @@
 -- What the laws give, for every number of kinds: `Under` is a partial order with 0 below and 1 above all, and the meet of two kinds is
 -- the greatest kind under both. The other way round, a meet that gives the greatest kind under both is lawful.
 -- Assumes nothing.
-use mathlib.Core.Path.{◌≡◌, ◌∙◌, sym, ap}
+use mathlib.Core.Path.{◌≡◌}
 use Prim.Native.Nat.{ℕ, ◌<◌}
 use native.Mathlib.Omega.{arith}
 use Rattle.kinds.specs.Kinds.{Under}

@@ -1,3 +1,4 @@
 pub mod Kinds
 pub mod Laws
 pub mod Sizes
+pub mod Tables

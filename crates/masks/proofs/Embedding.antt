@@ -33,12 +33,12 @@ and_assoc =
     ∙ sym (and_step a (bit_and b c) ∙ ap₂ (λ (x y : ℕ). bit_and (a / 2) x * 2 + min (a % 2) y) (and_half b c) (and_odd b c)))
 
 -- what every kind says of itself, and of each two the larger of the smaller
-module _ (n : ℕ) (table masks : List ℕ) (kinds : AllKinds n table) (single : (i : ℕ) → i < n → Single n table i)
-    (pair : (i : ℕ) → i < n → (j : ℕ) → j < i → Embedded n table masks i j) where
+module _ (n : ℕ) (table masks : List ℕ) (kinds : AllKinds n table) (single : (i : ℕ) → i < n → Single (meet_at n table) i)
+    (pair : (i : ℕ) → i < n → (j : ℕ) → j < i → Embedded (meet_at n table) masks i j) where
   closed : (i j : ℕ) → i < n → j < n → meet_at n table i j < n
   closed i j hi hj = kinds (i * n + j) (offset_lt hi hj)
 
-  every_pair : (i j : ℕ) → i < n → j < n → Embedded n table masks i j
+  every_pair : (i j : ℕ) → i < n → j < n → Embedded (meet_at n table) masks i j
   every_pair i j hi hj =
       by_cases (dec_lt j i) (λ l. pair i hi j l)
       (λ g. by_cases (dec_lt i j)

@@ -1,3 +1,3 @@
-pub mod Gather
+pub mod Chains
 pub mod Seen
 pub mod Embedding

@@ -4,18 +4,17 @@
 use Rattle.std.specs.Prelude.{◌≡◌, List, ℕ, ◌+◌, ◌*◌, ◌/◌, ◌%◌, ◌<◌, get_or}
 use Rattle.std.specs.Int.Bits.{bit_and}
 use Rattle.std.specs.Int.Count.{ones, count_trailing_zeros}
-use Rattle.kinds.specs.Kinds.{meet_at}
 
 -- the laws of i alone
-pub record Single (n : ℕ) (table : List ℕ) (i : ℕ) : Type 0 where
-  pub self : meet_at n table i i ≡ i
-  pub none : meet_at n table 0 i ≡ 0
-  pub any : meet_at n table 1 i ≡ i
+pub record Single (meet : ℕ → ℕ → ℕ) (i : ℕ) : Type 0 where
+  pub self : meet i i ≡ i
+  pub none : meet 0 i ≡ 0
+  pub any : meet 1 i ≡ i
 
 -- i and j commute, and the mask of meet(i,j) is the `&` of the masks of i and j
-pub record Embedded (n : ℕ) (table masks : List ℕ) (i j : ℕ) : Type 0 where
-  pub swap : meet_at n table i j ≡ meet_at n table j i
-  pub common : get_or masks (meet_at n table i j) 0 ≡ bit_and (get_or masks i 0) (get_or masks j 0)
+pub record Embedded (meet : ℕ → ℕ → ℕ) (masks : List ℕ) (i j : ℕ) : Type 0 where
+  pub swap : meet i j ≡ meet j i
+  pub common : get_or masks (meet i j) 0 ≡ bit_and (get_or masks i 0) (get_or masks j 0)
 
 -- two kinds have one mask only if they are one kind
 abbrev pub Apart : ℕ → List ℕ → Type 0

@@ -1,5 +1,6 @@
 pub mod Rigs
 pub mod Facts
+pub mod Decoding
 pub mod SameForm
 pub mod Canon
 pub mod Classes

@@ -13,7 +13,7 @@ use Rattle.kinds.specs.Laws.{Lawful}
 use Rattle.kinds.proofs.Order.{under_antisym}
 use Rattle.meaning.specs.declared.RigJoint.{RigJoint}
 use Rattle.meaning.specs.Picture.{Picture, Placing, Fact}
-use Rattle.meaning.specs.Rig.{Rig, meet_of, SameMeaning}
+use Rattle.meaning.specs.Rig.{Rig, SameMeaning}
 use Rattle.meaning.specs.Form.{Form, unknown, taken_facts}
 use Rattle.meaning.specs.Solving.{Smallest, Well, Models, Taken}
 use Rattle.meaning.proofs.Rigs.{LawfulRig, counts_every}

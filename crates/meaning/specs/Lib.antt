@@ -1,4 +1,5 @@
 pub mod Picture
+pub mod Decoding
 pub mod Rig
 pub mod Rule
 pub mod Form

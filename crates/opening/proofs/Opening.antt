@@ -7,9 +7,9 @@ use Prim.Native.Nat.{ℕ, ◌*◌, ◌≤◌}
 use lib.Dec.{eqb, leb}
 use lib.ListN.{length}
 use borrow.Author.Tests.{leb-true, eqb-true}
+use Rattle.std.specs.Prelude.{Ok}
 use Rattle.replies.specs.declared.Cause.TheVariants.{BadSize}
-use Rattle.replies.specs.declared.Reply.TheVariants.{Done, Refused}
-use Rattle.replies.specs.Replies.{refuses, third}
+use Rattle.replies.specs.Replies.{refuses, third, refusal}
 use Rattle.replies.proofs.Laws.{first_none, first_third, test_here, test_next, test_passed}
 use Rattle.tables.specs.Check.{first_breach, table_reply, in_order}
 use Rattle.kinds.specs.Sizes.{Sized}
@@ -39,7 +39,7 @@ module _ (n v : ℕ) (table b : List ℕ) where
         block = eqb-true (length b) block_size sizes.1;
       }
 
-  pub not_fitting : sizes_fit n v table b ≡ false → open_reply n v table b ≡ Refused BadSize 0
+  pub not_fitting : sizes_fit n v table b ≡ false → open_reply n v table b ≡ refusal BadSize 0
   unfolding open_reply
   not_fitting e = test_here _ _ _ _ _ e
 
@@ -48,7 +48,7 @@ module _ (n v : ℕ) (table b : List ℕ) where
   then_table e = test_next _ _ _ _ _ e ∙ first_none (table_reply n table)
 
   -- an opening that does not refuse: all fits, and the table passes the check
-  pub opens : refuses (open_reply n v table b) ≡ false → Fitting × (table_reply n table ≡ Done 0)
+  pub opens : refuses (open_reply n v table b) ≡ false → Fitting × (table_reply n table ≡ Ok 0)
   unfolding open_reply
   opens e =
       let passed = test_passed _ _ _ _ _ e in

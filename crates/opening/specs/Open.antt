@@ -2,8 +2,7 @@
 -- Assumes nothing.
 use Rattle.std.specs.Prelude.{Bool, ◌&&◌, cond, List, [], ◌∷◌, ℕ, ◌*◌, eqb, length}
 use Rattle.replies.specs.declared.Cause.TheVariants.{BadSize}
-use Rattle.replies.specs.declared.Reply.{Reply}
-use Rattle.replies.specs.Replies.{refuses, unless, first_refusal}
+use Rattle.replies.specs.Replies.{refuses, unless, first_refusal, Reply}
 use Rattle.tables.specs.Check.{table_reply}
 use Rattle.runs.specs.Runs.{within}
 use Rattle.blocks.specs.Layout.{block_size, fresh_block}

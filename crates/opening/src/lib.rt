@@ -4,28 +4,17 @@
 ghost use Rattle.std.specs.Prelude.{◌≡◌};
 ghost use Rattle.opening.specs.Open.{sizes_fit, open_reply, open_block};
 
-use replies::{Cause, Reply};
+use kinds::Table;
+use replies::{Cause, Refusal, Reply};
 
 // Whether n and V are in range, the table has n × n bytes and the block its size.
 fn sizes_fit(n: u64, v: u64, table: &[u8], block: &[u8]) -> bool
     ensures { result ≡ sizes_fit n v table.now block.now }
 {
-    if n < 2 {
-        return false;
-    }
-    if 64 < n {
-        return false;
-    }
-    if v < 1 {
-        return false;
-    }
-    if 64 < v {
-        return false;
-    }
-    if table.len() as u64 != n * n {
-        return false;
-    }
-    blocks::has_size(block)
+    (2..=64).contains(&n)
+        && (1..=64).contains(&v)
+        && table.len() as u64 == n * n
+        && blocks::has_size(block)
 }
 
 // Replies 1 to 3; done where none fits.
@@ -33,19 +22,19 @@ fn open_reply(n: u64, v: u64, table: &[u8], block: &[u8]) -> Reply
     ensures { result ≡ open_reply n v table.now block.now }
 {
     if !sizes_fit(n, v, table, block) {
-        return Reply::Refused(Cause::BadSize, 0);
+        return Err(Refusal(Cause::BadSize, 0));
     }
-    house::check(table, n as usize)
+    house::check(Table {
+        entries: table,
+        n: n as usize,
+    })
 }
 
 // Opens a session of V joints with the kinds of the table: on success the whole block is written, otherwise no byte.
 pub fn open(n: u64, v: u64, table: &[u8], block: &mut [u8]) -> Reply
     ensures { (result ≡ open_reply n v table.now block.old) × (block.new ≡ open_block n v table.now block.old) }
 {
-    let reply = open_reply(n, v, table, block);
-    if replies::is_refusal(reply) {
-        return reply;
-    }
+    open_reply(n, v, table, block)?;
     blocks::write_fresh(n as u8, v as u8, table, block);
-    reply
+    Ok(0)
 }

@@ -10,20 +10,20 @@ use native.Mathlib.Omega.{arith}
 use native.Mathlib.Decide.{dec_lt}
 use lib.ListN.{length, drop, length-append, length-drop}
 use borrow.Author.Tests.{le-leb, lt-leb}
+use Rattle.std.specs.Prelude.{Ok}
 use Rattle.replies.specs.declared.Cause.TheVariants.{ShortOutput}
-use Rattle.replies.specs.declared.Reply.TheVariants.{Done, Refused}
-use Rattle.replies.specs.Replies.{refuses, third}
+use Rattle.replies.specs.Replies.{refuses, third, refusal}
 use Rattle.replies.proofs.Laws.{first_none, test_here, test_next}
 use Rattle.outputs.specs.Output.{output_reply, output_after}
 
 module _ (bytes out : List ℕ) where
-  pub too_short : length out < length bytes → output_reply bytes out ≡ Refused ShortOutput 0
+  pub too_short : length out < length bytes → output_reply bytes out ≡ refusal ShortOutput 0
   unfolding output_reply
   too_short h = test_here _ _ _ _ _ (lt-leb (length bytes) (length out) h)
 
-  pub has_room : length bytes ≤ length out → output_reply bytes out ≡ Done (length bytes)
+  pub has_room : length bytes ≤ length out → output_reply bytes out ≡ Ok (length bytes)
   unfolding output_reply
-  has_room h = test_next _ _ _ _ _ (le-leb (length bytes) (length out) h) ∙ first_none (Done (length bytes))
+  has_room h = test_next _ _ _ _ _ (le-leb (length bytes) (length out) h) ∙ first_none (Ok (length bytes))
 
   -- nothing is put, or all
   pub none_put : length out < length bytes → out ≡ output_after bytes out

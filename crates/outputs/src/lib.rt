@@ -4,7 +4,7 @@
 ghost use Rattle.std.specs.Prelude.{◌≡◌, ◌^◌, ◌<◌, length};
 ghost use Rattle.outputs.specs.Output.{output_reply, output_after};
 
-use replies::{Cause, Reply};
+use replies::{Cause, Refusal, Reply};
 
 // Puts the bytes in front of the output where it has room for all of them, else none. Their number is a third number, of 24 bits.
 pub fn put_out(out: &mut [u8], bytes: &[u8]) -> Reply
@@ -14,8 +14,8 @@ pub fn put_out(out: &mut [u8], bytes: &[u8]) -> Reply
 {
     let size = bytes.len();
     if out.len() < size {
-        return Reply::Refused(Cause::ShortOutput, 0);
+        return Err(Refusal(Cause::ShortOutput, 0));
     }
-    runs::copy(&mut out[..size], bytes);
-    Reply::Done(size as u32)
+    out[..size].copy_from_slice(bytes);
+    Ok(size as u32)
 }

@@ -1,22 +1,19 @@
--- What a packet says, part by part: its facts under other names of joints, and that those of the code stand for different facts.
+-- What a packet says, part by part: its facts under other names of joints.
 -- Assumes nothing.
-use mathlib.Core.Path.{◌≡◌, refl}
+use mathlib.Core.Path.{◌≡◌, refl, sym, ap, ◌∙◌}
 use mathlib.Core.Bool.{Bool, true, false, cond}
 use mathlib.Core.List.{List, map}
 use Prim.Native.Nat.{ℕ, zero, suc, ◌+◌, ◌<◌}
 use native.Mathlib.Omega.{arith}
 use lib.Dec.{eqb}
-use Rattle.meaning.specs.declared.RigFact.{RigFact}
-use Rattle.meaning.specs.declared.RigFact.TheVariants as rig_case
-use Rattle.meaning.specs.declared.RuleFact.{RuleFact}
-use Rattle.meaning.specs.declared.RuleFact.TheVariants as rule_case
 use Rattle.meaning.specs.Picture.{Fact, rename}
 use Rattle.meaning.specs.Picture.Fact.{has_kind, same, leads}
 use Rattle.meaning.specs.Solving.{InRange, AllInRange}
+use Rattle.meaning.specs.Decoding.{Renamed}
+use Rattle.meaning.proofs.Decoding.{renamed_by}
 use Rattle.packets.specs.Packet.{byte, fact_at}
 use Rattle.runs.specs.Runs.{each}
 use Rattle.packets.specs.Facts.{fact_of}
-use Rattle.packets.specs.Decoding.{rig_fact, rule_fact}
 
 module _ {J : Type 0} (joint : ℕ → J) where
   named :
@@ -32,6 +29,12 @@ module _ {J : Type 0} (joint : ℕ → J) where
   unfolding fact_of
   fact_named p at = named (eqb (byte p at) 1) (eqb (byte p at) 2) (byte p (at + 1)) (byte p (at + 2)) (byte p (at + 3))
 
+  -- read on the numbers and named, a fact is that on the joints
+  pub read_named :
+      (Named : ℕ → J → Type 0) → ((a : ℕ) (x : J) → Named a x → x ≡ joint a) → (p : List ℕ) (at : ℕ) {f : Fact ℕ} {g : Fact J} →
+      f ≡ fact_of (λ j. j) p at → Renamed Named f g → g ≡ fact_of joint p at
+  read_named Named own p at {f} e r = renamed_by Named joint own f r ∙ ap (rename joint) e ∙ sym (fact_named p at)
+
   pub each_named :
       (p : List ℕ) (i count : ℕ) →
       each (λ k. fact_of joint p (fact_at p k)) i count ≡ map (rename joint) (each (λ k. fact_of (λ j. j) p (fact_at p k)) i count)
@@ -45,26 +48,3 @@ pub each_in_range :
 unfolding each
 each_in_range n v f i zero r = tt
 each_in_range n v f i (suc count) r = (r i (omega arith), each_in_range n v f (suc i) count (λ k h. r k (omega arith)))
-
--- the facts of the code stand for different facts
-pub rig_fact_one : (f g : RigFact) → rig_fact f ≡ rig_fact g → f ≡ g
-rig_fact_one (rig_case.Kind a b) (rig_case.Kind x y) e = cc
-rig_fact_one (rig_case.Kind a b) (rig_case.Same x y) e = cc
-rig_fact_one (rig_case.Kind a b) (rig_case.Link x y z) e = cc
-rig_fact_one (rig_case.Same a b) (rig_case.Kind x y) e = cc
-rig_fact_one (rig_case.Same a b) (rig_case.Same x y) e = cc
-rig_fact_one (rig_case.Same a b) (rig_case.Link x y z) e = cc
-rig_fact_one (rig_case.Link a b c) (rig_case.Kind x y) e = cc
-rig_fact_one (rig_case.Link a b c) (rig_case.Same x y) e = cc
-rig_fact_one (rig_case.Link a b c) (rig_case.Link x y z) e = cc
-
-pub rule_fact_one : (f g : RuleFact) → rule_fact f ≡ rule_fact g → f ≡ g
-rule_fact_one (rule_case.Kind a b) (rule_case.Kind x y) e = cc
-rule_fact_one (rule_case.Kind a b) (rule_case.Same x y) e = cc
-rule_fact_one (rule_case.Kind a b) (rule_case.Link x y z) e = cc
-rule_fact_one (rule_case.Same a b) (rule_case.Kind x y) e = cc
-rule_fact_one (rule_case.Same a b) (rule_case.Same x y) e = cc
-rule_fact_one (rule_case.Same a b) (rule_case.Link x y z) e = cc
-rule_fact_one (rule_case.Link a b c) (rule_case.Kind x y) e = cc
-rule_fact_one (rule_case.Link a b c) (rule_case.Same x y) e = cc
-rule_fact_one (rule_case.Link a b c) (rule_case.Link x y z) e = cc

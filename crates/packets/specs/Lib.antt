@@ -1,4 +1,3 @@
 pub mod Packet
 pub mod Facts
 pub mod FactsPacket
-pub mod Decoding

@@ -6,10 +6,9 @@ use mathlib.Core.List.{List, [], ◌∷◌}
 use Prim.Native.Nat.{ℕ}
 use lib.Dec.{eqb, leb, ltb}
 use lib.ListN.{length}
+use Rattle.std.specs.Prelude.{Ok}
 use Rattle.replies.specs.declared.Cause.TheVariants.{BadSize, ShortOutput, OutOfRange, TooManyFacts}
-use Rattle.replies.specs.declared.Reply.{Reply}
-use Rattle.replies.specs.declared.Reply.TheVariants.{Done}
-use Rattle.replies.specs.Replies.{number, refuses, unless}
+use Rattle.replies.specs.Replies.{number, refuses, unless, Reply}
 use Rattle.meaning.specs.Rule.{Rule}
 use Rattle.reach.specs.Reached.{ReachReply}
 use Rattle.reach.specs.Reached.SmallestNot.{all, not_reached}
@@ -65,7 +64,7 @@ ask_answers (judged d x v j q) = ap (gives ask_numbers) q
 output_gives : (numbers bytes out : List ℕ) → listed numbers 0 ≡ true → listed numbers 12 ≡ true → gives numbers (output_reply bytes out) ≡ true
 unfolding output_reply
 output_gives numbers bytes out has_0 has_12 =
-    first_gives numbers _ (Done (length bytes)) (unless_gives numbers (leb (length bytes) (length out)) ShortOutput 0 has_0 has_12, tt) has_0
+    first_gives numbers _ (Ok (length bytes)) (unless_gives numbers (leb (length bytes) (length out)) ShortOutput 0 has_0 has_12, tt) has_0
 
 pub write_answers : (b out : List ℕ) → gives write_numbers (write_reply b out) ≡ true
 unfolding write_reply listed
@@ -100,7 +99,7 @@ pub write_term_answers : {b out after : List ℕ} {root : ℕ} {r : Reply} → W
 unfolding write_term_refusal listed
 write_term_answers {b} {root = root} (write_refused e q _) =
     ap (gives write_term_numbers) q
-    ∙ first_gives write_term_numbers _ (Done 0) (
+    ∙ first_gives write_term_numbers _ (Ok 0) (
       block_gives write_term_numbers refl refl refl b,
       (unless_gives write_term_numbers (ltb root (joints_of b)) OutOfRange 0 refl refl, tt),
     )

@@ -6,10 +6,9 @@ use mathlib.Core.Logic.{◌↔◌}
 use mathlib.Core.List.{List, ◌++◌}
 use Prim.Native.Nat.{ℕ, ◌+◌, ◌*◌}
 use native.Mathlib.Omega.{arith}
-use Rattle.replies.specs.declared.Reply.{Reply}
+use Rattle.std.specs.Prelude.{Ok}
 use Rattle.replies.specs.declared.Cause.TheVariants.{Clash}
-use Rattle.replies.specs.declared.Reply.TheVariants.{Done, Refused}
-use Rattle.replies.specs.Replies.{number, place}
+use Rattle.replies.specs.Replies.{number, place, Reply, refusal}
 use Rattle.meaning.specs.declared.Verdict.{Verdict}
 use Rattle.meaning.specs.declared.Verdict.TheVariants as verdict
 use Rattle.meaning.specs.Rig.{NoPicture, FirstClash}
@@ -31,7 +30,7 @@ use Rattle.promises.proofs.Readings.{reads_exactly}
 use Rattle.promises.proofs.Later.{JudgedAt, answered, clashed, must_clash, clashed_no_picture}
 
 -- a packet that no reply from 1 to 9 refuses
-module _ {b p after : List ℕ} {r : Reply} (well : take_refusal b p ≡ Done 0) (take : Take b p r after) where
+module _ {b p after : List ℕ} {r : Reply} (well : take_refusal b p ≡ Ok 0) (take : Take b p r after) where
   -- "A well-formed packet is refused for a clash exactly when no rig satisfies it together with the facts already taken."
   pub clash_exactly : (number r ≡ 11) ↔ NoPicture (rig_of b) (taken b ++ rig_facts p)
   clash_exactly = (
@@ -50,7 +49,7 @@ module _ {b p after : List ℕ} {r : Reply} (well : take_refusal b p ≡ Done 0)
         let d = clashed take e.number_is in
         let same : d.at ≡ i = omega (arith, e.place_is, ap place d.told, at_fact d.at) in
         subst (λ (k : ℕ). FirstClash (rig_of b) (taken b) (rig_facts p) k) same d.first,
-    λ f. rw (sym (at_fact i)) ((reads_exactly r (Refused Clash (fact_at p i))).0 (take_one take (clashes well i f refl refl)).0),
+    λ f. rw (sym (at_fact i)) ((reads_exactly r (refusal Clash (fact_at p i))).0 (take_one take (clashes well i f refl refl)).0),
   )
 
   -- and where it is refused for a clash there is such a fact
@@ -58,11 +57,11 @@ module _ {b p after : List ℕ} {r : Reply} (well : take_refusal b p ≡ Done 0)
   clash_parts f = let d = must_clash well f take in (d.at, (clash_place d.at).1 d.first)
 
 -- a rule that no reply from 1 to 10 refuses
-module _ {b p : List ℕ} {r : Reply} (well : ask_refusal b p ≡ Done 0) (reached : ReachReply (rule_of p) (Done 0)) (ask : Ask b p r) where
+module _ {b p : List ℕ} {r : Reply} (well : ask_refusal b p ≡ Ok 0) (reached : ReachReply (rule_of p) (Ok 0)) (ask : Ask b p r) where
   pub verdict_exactly : (x : Verdict) → Reads r 0 0 (verdict_number x) ↔ JudgedAt b p x
   verdict_exactly x = (
-    λ e. (answered x (subst (λ (y : Reply). Ask b p y) ((reads_exactly r (Done (verdict_number x))).1 e) ask)).judged,
-    λ j. (reads_exactly r (Done (verdict_number x))).0 (ask_one ask (judged well reached x j refl)),
+    λ e. (answered x (subst (λ (y : Reply). Ask b p y) ((reads_exactly r (Ok (verdict_number x))).1 e) ask)).judged,
+    λ j. (reads_exactly r (Ok (verdict_number x))).0 (ask_one ask (judged well reached x j refl)),
   )
 
   -- "A well-formed rule applies exactly when every rig satisfying the taken facts satisfies the rule"

@@ -7,10 +7,9 @@ use mathlib.Core.Bool.{false, true≢false}
 use mathlib.Core.List.{List, ◌++◌, Memᴰ}
 use Prim.Native.Nat.{ℕ, ◌≤◌}
 use native.Mathlib.Omega.{arith}
-use Rattle.replies.specs.declared.Reply.{Reply}
+use Rattle.std.specs.Prelude.{Ok}
 use Rattle.replies.specs.declared.Cause.TheVariants.{Clash}
-use Rattle.replies.specs.declared.Reply.TheVariants.{Done, Refused}
-use Rattle.replies.specs.Replies.{number, place, refuses}
+use Rattle.replies.specs.Replies.{number, place, refuses, Reply, refusal}
 use Rattle.meaning.specs.declared.RigJoint.{RigJoint}
 use Rattle.meaning.specs.declared.Verdict.{Verdict}
 use Rattle.meaning.specs.declared.Verdict.TheVariants as verdict
@@ -52,8 +51,8 @@ module _ {b c p : List ℕ} {sent : List Sent} {first r : Reply} where
       (x : Verdict) → x ≢ verdict.Waits → Ask b p first → Reads first 0 0 (verdict_number x) → Calls b sent c → Ask c p r →
       Reads r 0 0 (verdict_number x)
   stays x d a e calls later =
-      let told = (reads_exactly first (Done (verdict_number x))).1 e in
-      (reads_exactly r (Done (verdict_number x))).0 (verdict_stays x d (subst (λ (y : Reply). Ask b p y) told a) calls later)
+      let told = (reads_exactly first (Ok (verdict_number x))).1 e in
+      (reads_exactly r (Ok (verdict_number x))).0 (verdict_stays x d (subst (λ (y : Reply). Ask b p y) told a) calls later)
 
   pub applies_stays : Ask b p first → Reads first 0 0 1 → Calls b sent c → Ask c p r → Reads r 0 0 1
   applies_stays = stays verdict.Applies (λ e. omega (arith, ap verdict_number e))
@@ -66,7 +65,7 @@ module _ {b c p after again : List ℕ} {sent : List Sent} {first r : Reply} whe
   pub clash_stays : Take b p first after → number first ≡ 11 → Calls b sent c → Take c p r again → Reads r 11 (place r) 0 × (again ≡ c)
   clash_stays take e calls later =
       let still = still_clashes (clashed take e) calls later in
-      let told = (reads_exactly r (Refused Clash (fact_at p still.at))).0 still.told in
+      let told = (reads_exactly r (refusal Clash (fact_at p still.at))).0 still.told in
       (record { number_is = told.number_is; place_is = refl; third_is = told.third_is }, still.kept)
 
   -- order 1: and its place is never that of a later fact
@@ -115,7 +114,7 @@ module _
 -- all packets sent are well formed, and one picture and placing satisfy all their facts
 module _
     {n v : ℕ} {table b : List ℕ} {sent : List Sent} (s : Session n v table sent b)
-    (well : (t : Sent) → Memᴰ t sent → packet_reply (facts_wanted v) n v t.packet ≡ Done 0)
+    (well : (t : Sent) → Memᴰ t sent → packet_reply (facts_wanted v) n v t.packet ≡ Ok 0)
     (P : Picture n) (σ : RigJoint → ℕ) (counts : Counts (opened_rig n v table).profile P) (placed : Placing P σ)
     (holds : (t : Sent) → Memᴰ t sent → All (meet_of (opened_rig n v table)) P σ (rig_facts t.packet)) where
   pub all_taken : (t : Sent) → Memᴰ t sent → refuses t.reply ≡ false
@@ -127,7 +126,7 @@ module _
       then : Session n v table m.before m.block
       then = record { lent = s.lent; opens = s.opens; calls = m.calls }
 
-      goes_on : take_refusal m.block t.packet ≡ Done 0
+      goes_on : take_refusal m.block t.packet ≡ Ok 0
       goes_on = sent_goes_on t.packet then (well t in_sent)
 
       satisfied : All (meet_of (opened_rig n v table)) P σ (taken m.block ++ rig_facts t.packet)

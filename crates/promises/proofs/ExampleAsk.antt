@@ -9,7 +9,7 @@ use Prim.Native.Nat.{ℕ, zero, suc, ◌<◌, ◌≤◌}
 use native.Mathlib.Omega.{arith}
 use lib.Dec.{lit<}
 use lib.ListN.{get_or, get_or-eq_default}
-use Rattle.replies.specs.declared.Reply.TheVariants.{Done}
+use Rattle.std.specs.Prelude.{Ok}
 use Rattle.replies.specs.Replies.{refuses, first_refusal}
 use Rattle.kinds.specs.Kinds.{Under}
 use Rattle.kinds.proofs.Order.{under_none}
@@ -64,7 +64,7 @@ said10 j = record { joints = 1; ties = tie 0 1 ∷ tie 0 j ∷ []; facts = [] }
 
 -- a packet for asking that no reply from 5 to 9 refuses, and what it says
 record Says (p : List ℕ) (r : Rule) : Type 0 where
-  fits : packet_reply rule_wanted 33 4 p ≡ Done 0
+  fits : packet_reply rule_wanted 33 4 p ≡ Ok 0
   is : rule_of p ≡ r
 
 says6 : Says rule6 (said6 2)
@@ -96,10 +96,10 @@ zero_reached : {t : Tie} {ts : List Tie} {k : ℕ} {fs : List (Fact RuleJoint)} 
     Reached (record { joints = k; ties = t ∷ ts; facts = fs }) t.rule
 zero_reached = by_tie (Memᴰ.head refl)
 
-one_joint : (r : Rule) → r.joints ≡ 1 → Reached r (rule_joint 0) → ReachReply r (Done 0)
+one_joint : (r : Rule) → r.joints ≡ 1 → Reached r (rule_joint 0) → ReachReply r (Ok 0)
 one_joint r e z = all (λ j h. let q : j ≡ 0 = omega arith in rw q z)
 
-two_joints : (r : Rule) → r.joints ≡ 2 → Reached r (rule_joint 0) → Reached r (rule_joint 1) → ReachReply r (Done 0)
+two_joints : (r : Rule) → r.joints ≡ 2 → Reached r (rule_joint 0) → Reached r (rule_joint 1) → ReachReply r (Ok 0)
 two_joints r e z o = all reached
   where
     reached : (j : ℕ) → j < r.joints → Reached r (rule_joint j)
@@ -107,25 +107,25 @@ two_joints r e z o = all reached
     reached (suc zero) h = o
     reached (suc (suc j)) h = absurd (omega arith)
 
-reach6 : (s : ℕ) → ReachReply (said6 s) (Done 0)
+reach6 : (s : ℕ) → ReachReply (said6 s) (Ok 0)
 reach6 s = two_joints (said6 s) refl zero_reached (by_link (Memᴰ.tail (Memᴰ.head refl)) zero_reached)
 
 -- the one answer, by a verdict on what the packet says
 answers :
-    (p : List ℕ) {r : Rule} → Says p r → ReachReply r (Done 0) → (x : Verdict) →
+    (p : List ℕ) {r : Rule} → Says p r → ReachReply r (Ok 0) → (x : Verdict) →
     Judged house_rig facts_after r x → Asks after_f p x
 answers p {r} s reach x j reply = (
-  λ a. (reads_exactly reply (Done (verdict_number x))).0 (ask_one a one),
-  λ e. rw ((reads_exactly reply (Done (verdict_number x))).1 e) one,
+  λ a. (reads_exactly reply (Ok (verdict_number x))).0 (ask_one a one),
+  λ e. rw ((reads_exactly reply (Ok (verdict_number x))).1 e) one,
 )
   where
-    done : ask_refusal after_f p ≡ Done 0
+    done : ask_refusal after_f p ≡ Ok 0
     done = packet_decides after_f p (ap refuses (block_done after_good))
-        ∙ over_rig (λ R. packet_reply rule_wanted R.kinds R.joints p ≡ Done 0) (sym after_rig) s.fits
+        ∙ over_rig (λ R. packet_reply rule_wanted R.kinds R.joints p ≡ Ok 0) (sym after_rig) s.fits
 
-    one : Ask after_f p (Done (verdict_number x))
+    one : Ask after_f p (Ok (verdict_number x))
     one =
-        judged done (subst (λ (q : Rule). ReachReply q (Done 0)) (sym s.is) reach) x
+        judged done (subst (λ (q : Rule). ReachReply q (Ok 0)) (sym s.is) reach) x
         (of_after (λ R fs. Judged R fs (rule_of p) x)
         (subst (λ (q : Rule). Judged house_rig facts_after q x) (sym s.is) j))
         refl

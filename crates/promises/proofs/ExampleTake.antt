@@ -6,10 +6,9 @@ use mathlib.Core.List.{List, [], ◌∷◌, ◌++◌}
 use Prim.Native.Nat.{ℕ, ◌<◌}
 use lib.Dec.{lit<}
 use lib.ListN.{take}
-use Rattle.replies.specs.declared.Reply.{Reply}
+use Rattle.std.specs.Prelude.{Ok}
 use Rattle.replies.specs.declared.Cause.TheVariants.{Clash}
-use Rattle.replies.specs.declared.Reply.TheVariants.{Done, Refused}
-use Rattle.replies.specs.Replies.{number, place, third, refuses, first_refusal}
+use Rattle.replies.specs.Replies.{number, place, third, refuses, first_refusal, Reply, refusal}
 use Rattle.kinds.specs.Kinds.{Under, meet_at}
 use Rattle.kinds.proofs.Order.{under_trans, under_none, meet_greatest}
 use Rattle.house.specs.Meets.{house_table}
@@ -49,16 +48,16 @@ takes {b} {p} reply t r x = (
 
 -- a packet that is not refused for 33 kinds and 4 joints is not refused by a block of so many
 not_refused :
-    {b : List ℕ} (p : List ℕ) → GoodBlock b → rig_of b ≡ house_rig → packet_reply (facts_wanted 4) 33 4 p ≡ Done 0 → take_refusal b p ≡ Done 0
+    {b : List ℕ} (p : List ℕ) → GoodBlock b → rig_of b ≡ house_rig → packet_reply (facts_wanted 4) 33 4 p ≡ Ok 0 → take_refusal b p ≡ Ok 0
 not_refused {b} p g rig e =
     packet_decides b p (ap refuses (block_done g))
-    ∙ at_rig_lem (λ R. packet_reply (facts_wanted R.joints) R.kinds R.joints p ≡ Done 0) (sym rig) e
+    ∙ at_rig_lem (λ R. packet_reply (facts_wanted R.joints) R.kinds R.joints p ≡ Ok 0) (sym rig) e
 
-facts_f_fit : packet_reply (facts_wanted 4) 33 4 facts_f ≡ Done 0
+facts_f_fit : packet_reply (facts_wanted 4) 33 4 facts_f ≡ Ok 0
 unfolding packet_reply facts_f fact_fits first_unfit first_refusal each
 facts_f_fit = refl
 
-fact12_fits : packet_reply (facts_wanted 4) 33 4 fact12 ≡ Done 0
+fact12_fits : packet_reply (facts_wanted 4) 33 4 fact12 ≡ Ok 0
 unfolding packet_reply fact12 fact_fits first_unfit first_refusal each
 fact12_fits = refl
 
@@ -121,7 +120,7 @@ same_F P σ _ placed = (to_said P σ, from_said P σ)
 -- P4: F is taken with 1 join
 pub takes_F : Takes opened facts_f 0 0 1 after_f
 takes_F =
-    takes (Done 1)
+    takes (Ok 1)
     (done (not_refused facts_f opened_good opened_rig_lem facts_f_fit)
     (record {
       stands = record { size = after_good.size; well = put_together after_f after_good.well; rig = after_rig ∙ sym opened_rig_lem };
@@ -160,5 +159,5 @@ fact12_at = refl
 -- P12: then "2 has kind 3" clashes at byte 6, and the block is unchanged
 pub takes_12 : Takes after_f fact12 11 6 0 after_f
 takes_12 =
-    takes (Refused Clash 6)
-    (clashes (not_refused fact12 after_good after_rig fact12_fits) 0 first_12 (ap (Refused Clash) (sym fact12_at)) refl)
+    takes (refusal Clash 6)
+    (clashes (not_refused fact12 after_good after_rig fact12_fits) 0 first_12 (ap (refusal Clash) (sym fact12_at)) refl)

@@ -9,9 +9,8 @@ use Prim.Native.Nat.{ℕ, ◌≤◌}
 use native.Mathlib.Omega.{arith}
 use lib.ListN.{length, drop}
 use borrow.Author.Tests.{eq-eqb}
-use Rattle.replies.specs.declared.Reply.{Reply}
-use Rattle.replies.specs.declared.Reply.TheVariants.{Done}
-use Rattle.replies.specs.Replies.{refuses}
+use Rattle.std.specs.Prelude.{Ok}
+use Rattle.replies.specs.Replies.{refuses, Reply}
 use Rattle.house.specs.Meets.{house_table}
 use Rattle.house.proofs.Rule.{house_passes}
 use Rattle.house.proofs.Examples as house
@@ -43,7 +42,7 @@ module _ (b : List ℕ) (size : length b ≡ block_size) where
   unfolding house_table
   sizes_fit_lem = rw (eq-eqb (length b) block_size size)
 
-  opens_done : open_reply 33 4 house_table b ≡ Done 0
+  opens_done : open_reply 33 4 house_table b ≡ Ok 0
   opens_done = then_table 33 4 house_table b sizes_fit_lem ∙ house_passes
 
   opens_fresh : open_block 33 4 house_table b ≡ opened
@@ -67,12 +66,12 @@ form_size : length (solved_form after_f) ≡ 22
 form_size = ap length p5 ∙ solved_size
 
 module _ (out : List ℕ) (room : 22 ≤ length out) where
-  writes : (write_reply after_f out ≡ Done (length (solved_form after_f)))
+  writes : (write_reply after_f out ≡ Ok (length (solved_form after_f)))
       × (written_output after_f out ≡ solved_form after_f ++ drop (length (solved_form after_f)) out)
   writes = write_done after_f out after_good (omega (arith, form_size))
 
-  writes_22 : write_reply after_f out ≡ Done 22
-  writes_22 = writes.0 ∙ ap Done form_size
+  writes_22 : write_reply after_f out ≡ Ok 22
+  writes_22 = writes.0 ∙ ap Ok form_size
 
   writes_bytes : written_output after_f out ≡ solved_f ++ drop 22 out
   writes_bytes =
@@ -83,14 +82,14 @@ module _ (out : List ℕ) (room : 22 ≤ length out) where
 pub examples : Examples
 examples =
     record {
-      opens = λ b size. ((reads_exactly (open_reply 33 4 house_table b) (Done 0)).0 (opens_done b size), opens_fresh b size);
+      opens = λ b size. ((reads_exactly (open_reply 33 4 house_table b) (Ok 0)).0 (opens_done b size), opens_fresh b size);
       p1 = house.p1;
       p2 = house.p2;
       p3 = house.p3;
       after = after_f;
       p4 = takes_F;
       p5 = p5;
-      p5_written = λ out room. ((reads_exactly (write_reply after_f out) (Done 22)).0 (writes_22 out room), writes_bytes out room);
+      p5_written = λ out room. ((reads_exactly (write_reply after_f out) (Ok 22)).0 (writes_22 out room), writes_bytes out room);
       p6 = p6;
       p7 = p7;
       p8 = p8;
@@ -126,7 +125,7 @@ typed_reads =
       fits = (omega arith, omega arith, (omega arith, (omega arith, omega arith), (omega arith, (omega arith, tt))));
     }
 
-typed_in_range : range_reply 33 4 0 (term_tokens typed_term) ≡ Done 0
+typed_in_range : range_reply 33 4 0 (term_tokens typed_term) ≡ Ok 0
 unfolding typed_term term_tokens range_reply digits
 typed_in_range = refl
 
@@ -134,7 +133,7 @@ typed_few : length (term_facts typed_term) ≡ 4
 unfolding typed_term term_facts
 typed_few = refl
 
-typed_passes : read_term_refusal opened typed_text ≡ Done 0
+typed_passes : read_term_refusal opened typed_text ≡ Ok 0
 typed_passes = opened_passes typed_text (omega (arith, typed_size))
 
 module _ (out : List ℕ) (room : 22 ≤ length out) where
@@ -143,8 +142,8 @@ module _ (out : List ℕ) (room : 22 ≤ length out) where
       record { in_range = typed_in_range; few = omega (arith, typed_few); room = omega (arith, ap length typed_packet_lem, packet_size) }
 
   -- the packet and its size, as they were computed
-  replies_22 : Done (length (term_packet 4 typed_term)) ≡ Done 22
-  replies_22 = ap Done (ap length typed_packet_lem ∙ packet_size)
+  replies_22 : ◌≡◌ {A = Reply} (Ok (length (term_packet 4 typed_term))) (Ok 22)
+  replies_22 = ap (λ (t : ℕ). Ok t) (ap length typed_packet_lem ∙ packet_size)
 
   puts_packet : term_packet 4 typed_term ++ drop (length (term_packet 4 typed_term)) out ≡ typed_packet ++ drop 22 out
   puts_packet = ap (λ (p : List ℕ). p ++ drop (length p) out) typed_packet_lem ∙ ap (λ (k : ℕ). typed_packet ++ drop k out) packet_size
@@ -153,9 +152,9 @@ module _ (out : List ℕ) (room : 22 ≤ length out) where
   read_so r x = (
     λ a.
         let e = reads_only opened typed_text out typed_passes typed_term typed_reads typed_readable a in
-        ((reads_exactly r (Done 22)).0 (e.0 ∙ replies_22), e.1 ∙ puts_packet),
+        ((reads_exactly r (Ok 22)).0 (e.0 ∙ replies_22), e.1 ∙ puts_packet),
     λ e.
-        rw ((reads_exactly r (Done 22)).1 e.0 ∙ sym replies_22, e.1 ∙ sym puts_packet)
+        rw ((reads_exactly r (Ok 22)).1 e.0 ∙ sym replies_22, e.1 ∙ sym puts_packet)
         (reads opened typed_text out typed_passes typed_term typed_reads typed_readable),
   )
 

@@ -3,12 +3,12 @@
 -- itself a model: so a well-formed form shows exactly what its taken facts force. The other way round, a form's facts are all among those it
 -- shows: so a block that shows exactly what the facts force means what they mean.
 -- Assumes nothing.
-use mathlib.Core.Path.{◌≡◌, refl, sym, ◌∙◌, ap}
+use mathlib.Core.Path.{◌≡◌, sym, ◌∙◌, ap}
 use mathlib.Core.Logic.{◌↔◌, ◌≢◌, ⊎_elim}
 use mathlib.Core.List.{List, [], ◌∷◌, ◌++◌, Memᴰ}
-use Prim.Native.Nat.{ℕ, ◌<◌, ◌≤◌}
+use Prim.Native.Nat.{ℕ, ◌<◌}
 use native.Mathlib.Omega.{arith}
-use Rattle.replies.specs.declared.Reply.TheVariants.{Done}
+use Rattle.std.specs.Prelude.{Ok}
 use Rattle.replies.specs.Replies.{refuses}
 use Rattle.kinds.specs.Kinds.{Under}
 use Rattle.kinds.specs.Laws.{Lawful}
@@ -224,7 +224,7 @@ named_writable n v (same a b) h = h
 named_writable n v (leads a l c) h = h
 
 packet_writable :
-    (n v : ℕ) (p : List ℕ) → packet_reply (facts_wanted v) n v p ≡ Done 0 → (f : Fact RigJoint) → Memᴰ f (rig_facts p) → Writable n v f
+    (n v : ℕ) (p : List ℕ) → packet_reply (facts_wanted v) n v p ≡ Ok 0 → (f : Fact RigJoint) → Memᴰ f (rig_facts p) → Writable n v f
 packet_writable n v p e f m =
     let w = well_formed_lem (facts_wanted v) n v p (ap refuses e) in
     let k = among (λ i. fact_of rig_joint p (fact_at p i)) 0 (fact_count p) m in
@@ -232,7 +232,7 @@ packet_writable n v p e f m =
     rw (k.is, fact_named rig_joint p (fact_at p k.at), ← same_joints)
     (named_writable n (joints p) (fact_of (λ j. j) p (fact_at p k.at)) (w.fact k.at (omega (arith, k.below))))
 
-module _ (b p : List ℕ) (well : take_refusal b p ≡ Done 0) where
+module _ (b p : List ℕ) (well : take_refusal b p ≡ Ok 0) where
   -- so what the contract of taking says of the block after is what the sentence says
   pub after_exactly : {after : List ℕ} → After b (rig_facts p) after ↔ PictureFollows b (rig_facts p) after
   after_exactly =

@@ -10,8 +10,7 @@ use lib.Arith.{digits_div, digits_mod}
 use lib.Dec.{eqb}
 use lib.ListN.{length}
 use Rattle.replies.specs.declared.Cause.TheVariants.{BadSize}
-use Rattle.replies.specs.declared.Reply.{Reply}
-use Rattle.replies.specs.Replies.{number, place, third, packed, unless}
+use Rattle.replies.specs.Replies.{number, place, third, packed, unless, Reply}
 use Rattle.opening.specs.Open.{open_reply}
 use Rattle.opening.proofs.Opening.{open_third}
 use Rattle.taking.specs.Take.{Take}

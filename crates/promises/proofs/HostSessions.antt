@@ -6,9 +6,8 @@ use mathlib.Core.Logic.{◌≢◌}
 use mathlib.Core.List.{List, Memᴰ}
 use Prim.Native.Nat.{ℕ, ◌/◌, ◌%◌, ◌^◌, ◌<◌, ◌≤◌}
 use native.Mathlib.Omega.{arith}
-use Rattle.replies.specs.declared.Reply.{Reply}
-use Rattle.replies.specs.declared.Reply.TheVariants.{Done}
-use Rattle.replies.specs.Replies.{number, place, third, packed}
+use Rattle.std.specs.Prelude.{Ok}
+use Rattle.replies.specs.Replies.{number, place, third, packed, Reply}
 use Rattle.meaning.specs.declared.RigJoint.{RigJoint}
 use Rattle.meaning.specs.declared.Verdict.{Verdict}
 use Rattle.meaning.specs.declared.Verdict.TheVariants as verdict
@@ -30,10 +29,10 @@ use Rattle.promises.proofs.Demand3.{clash_stays, clash_never_later, same_answers
 -- "a rule that once applies or is ruled out .. gets that verdict at every later asking"
 module _ {b c p : List ℕ} {sent : List Sent} {x y : ℕ} where
   stays :
-      (v : Verdict) → v ≢ verdict.Waits → verdict_number v < 2 ^ 24 → HostNumber (λ r. Ask b p r) x → x ≡ packed (Done (verdict_number v)) → Calls b sent c →
-      HostNumber (λ r. Ask c p r) y → y ≡ packed (Done (verdict_number v))
+      (v : Verdict) → v ≢ verdict.Waits → verdict_number v < 2 ^ 24 → HostNumber (λ r. Ask b p r) x → x ≡ packed (Ok (verdict_number v)) → Calls b sent c →
+      HostNumber (λ r. Ask c p r) y → y ≡ packed (Ok (verdict_number v))
   stays v d few first e calls later =
-      let reply = packed_one first.reply (Done (verdict_number v)) (ask_third first.allowed) few (sym first.told ∙ e) in
+      let reply = packed_one first.reply (Ok (verdict_number v)) (ask_third first.allowed) few (sym first.told ∙ e) in
       later.told ∙ ap packed (verdict_stays v d (subst (λ (r : Reply). Ask b p r) reply first.allowed) calls later.allowed)
 
   pub host_applies_stays : HostNumber (λ r. Ask b p r) x → x ≡ 256 → Calls b sent c → HostNumber (λ r. Ask c p r) y → y ≡ 256
@@ -87,7 +86,7 @@ host_same_replies s s' same t t' =
 -- "If all packets sent are well formed and one rig satisfies all their facts, no order of sending has one refused for a clash."
 pub host_no_clash :
     {n v : ℕ} {table b : List ℕ} {sent : List Sent} (s : Session n v table sent b)
-    (well : (t : Sent) → Memᴰ t sent → packet_reply (facts_wanted v) n v t.packet ≡ Done 0)
+    (well : (t : Sent) → Memᴰ t sent → packet_reply (facts_wanted v) n v t.packet ≡ Ok 0)
     (P : Picture n) (σ : RigJoint → ℕ) (counts : Counts (opened_rig n v table).profile P) (placed : Placing P σ)
     (holds : (t : Sent) → Memᴰ t sent → All (meet_of (opened_rig n v table)) P σ (rig_facts t.packet)) →
     (t : Sent) → Memᴰ t sent → packed t.reply % 256 ≢ 11

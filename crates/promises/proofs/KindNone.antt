@@ -5,9 +5,8 @@ use mathlib.Core.Path.{◌≡◌}
 use mathlib.Core.List.{List, ◌++◌, Memᴰ}
 use Prim.Native.Nat.{ℕ}
 use native.Mathlib.Omega.{arith}
-use Rattle.replies.specs.declared.Reply.{Reply}
-use Rattle.replies.specs.declared.Reply.TheVariants.{Done}
-use Rattle.replies.specs.Replies.{number}
+use Rattle.std.specs.Prelude.{Ok}
+use Rattle.replies.specs.Replies.{number, Reply}
 use Rattle.kinds.specs.Kinds.{Under}
 use Rattle.kinds.proofs.Order.{under_none}
 use Rattle.meaning.specs.declared.RigJoint.{RigJoint}
@@ -42,14 +41,14 @@ module _ {R : Rig} (g : LawfulRig R) where
 
 -- a packet that no reply from 1 to 9 refuses
 pub none_clashes :
-    {b p after : List ℕ} {r : Reply} {a : RigJoint} → take_refusal b p ≡ Done 0 → Take b p r after → Memᴰ (has_kind a 0) (rig_facts p) →
+    {b p after : List ℕ} {r : Reply} {a : RigJoint} → take_refusal b p ≡ Ok 0 → Take b p r after → Memᴰ (has_kind a 0) (rig_facts p) →
     number r ≡ 11
 none_clashes {b} {p} well take m =
     (clash_exactly well take).1 (none_no_picture (block_rig (taken_good b p well).0.well) (taken b) (rig_facts p) m)
 
 -- a rule that no reply from 1 to 10 refuses
 pub none_ruled_out :
-    {b p : List ℕ} {r : Reply} {u : RuleJoint} → ask_refusal b p ≡ Done 0 → ReachReply (rule_of p) (Done 0) → Ask b p r →
+    {b p : List ℕ} {r : Reply} {u : RuleJoint} → ask_refusal b p ≡ Ok 0 → ReachReply (rule_of p) (Ok 0) → Ask b p r →
     Memᴰ (has_kind u 0) (rule_of p).facts → Reads r 0 0 2
 none_ruled_out {b} {p} well reached ask m =
     (ruled_out_exactly well reached ask).1 (none_no_rule (block_rig (asked b p well).good.well) (taken b) (rule_of p) m)

@@ -8,10 +8,9 @@ use mathlib.Core.List.{List, ◌++◌}
 use Prim.Native.Nat.{ℕ, ◌≤◌}
 use native.Mathlib.Omega.{arith}
 use lib.Dec.{eqb}
+use Rattle.std.specs.Prelude.{Ok}
 use Rattle.replies.specs.declared.Cause.TheVariants.{Clash}
-use Rattle.replies.specs.declared.Reply.{Reply}
-use Rattle.replies.specs.declared.Reply.TheVariants.{Done, Refused}
-use Rattle.replies.specs.Replies.{number, place, third, refuses}
+use Rattle.replies.specs.Replies.{number, place, third, refuses, Reply, refusal}
 use Rattle.replies.proofs.Laws.{not_both}
 use Rattle.meaning.specs.declared.Verdict.{Verdict}
 use Rattle.meaning.specs.declared.Verdict.TheVariants as verdict
@@ -57,14 +56,14 @@ module _ {b c : List ℕ} {sent : List Sent} (cs : Calls b sent c) (g : GoodBloc
   later_passes = ap refuses (block_done (after_good later))
 
   -- a packet that no reply before the clash or the verdict refuses is refused by none later
-  asks_on : (p : List ℕ) → ask_refusal b p ≡ Done 0 → ask_refusal c p ≡ Done 0
+  asks_on : (p : List ℕ) → ask_refusal b p ≡ Ok 0 → ask_refusal c p ≡ Ok 0
   asks_on p d =
-      ask_decides c p later_passes ∙ at_later (λ R. packet_reply rule_wanted R.kinds R.joints p ≡ Done 0) (asked b p d).rule
+      ask_decides c p later_passes ∙ at_later (λ R. packet_reply rule_wanted R.kinds R.joints p ≡ Ok 0) (asked b p d).rule
 
-  takes_on : (p : List ℕ) → take_refusal b p ≡ Done 0 → take_refusal c p ≡ Done 0
+  takes_on : (p : List ℕ) → take_refusal b p ≡ Ok 0 → take_refusal c p ≡ Ok 0
   takes_on p d =
       take_decides c p later_passes
-      ∙ at_later (λ R. packet_reply (facts_wanted R.joints) R.kinds R.joints p ≡ Done 0) (taken_good b p d).1
+      ∙ at_later (λ R. packet_reply (facts_wanted R.joints) R.kinds R.joints p ≡ Ok 0) (taken_good b p d).1
 
 -- the verdict on a rule given what a block has taken
 abbrev pub JudgedAt : List ℕ → List ℕ → Verdict → Type 0
@@ -72,8 +71,8 @@ JudgedAt b p = Judged (rig_of b) (taken b) (rule_of p)
 
 -- what an asking that is done tells
 pub record Answered (b p : List ℕ) (x : Verdict) : Type 0 where
-  pub goes_on : ask_refusal b p ≡ Done 0
-  pub reached : ReachReply (rule_of p) (Done 0)
+  pub goes_on : ask_refusal b p ≡ Ok 0
+  pub reached : ReachReply (rule_of p) (Ok 0)
   pub judged : JudgedAt b p x
 
 -- a verdict is known by its number
@@ -86,7 +85,7 @@ verdict_of_lem verdict.Applies = refl
 verdict_of_lem verdict.RuledOut = refl
 verdict_of_lem verdict.Waits = refl
 
-pub answered : {b p : List ℕ} (x : Verdict) → Ask b p (Done (verdict_number x)) → Answered b p x
+pub answered : {b p : List ℕ} (x : Verdict) → Ask b p (Ok (verdict_number x)) → Answered b p x
 answered x (ask_refused e q) = absurd (true≢false (sym e ∙ ap refuses (sym q)))
 answered x (unreached d r e) = absurd (true≢false (sym e))
 answered {b} {p} x (judged d r y j q) =
@@ -103,8 +102,8 @@ judged_later {b} {c} p verdict.RuledOut d cs g j =
 judged_later p verdict.Waits d cs g j = absurd (d refl)
 
 pub verdict_stays :
-    {b c p : List ℕ} {sent : List Sent} {r : Reply} (x : Verdict) → x ≢ verdict.Waits → Ask b p (Done (verdict_number x)) → Calls b sent c →
-    Ask c p r → r ≡ Done (verdict_number x)
+    {b c p : List ℕ} {sent : List Sent} {r : Reply} (x : Verdict) → x ≢ verdict.Waits → Ask b p (Ok (verdict_number x)) → Calls b sent c →
+    Ask c p r → r ≡ Ok (verdict_number x)
 verdict_stays {b} {p = p} x d before cs after =
     let a = answered x before in
     let g = (asked b p a.goes_on).good in
@@ -112,10 +111,10 @@ verdict_stays {b} {p = p} x d before cs after =
 
 -- a taking that clashes, and at which fact
 pub record Clashed (b p : List ℕ) (r : Reply) (after : List ℕ) : Type 0 where
-  pub goes_on : take_refusal b p ≡ Done 0
+  pub goes_on : take_refusal b p ≡ Ok 0
   pub at : ℕ
   pub first : FirstClash (rig_of b) (taken b) (rig_facts p) at
-  pub told : r ≡ Refused Clash (fact_at p at)
+  pub told : r ≡ refusal Clash (fact_at p at)
   pub kept : after ≡ b
 
 module _ {b p : List ℕ} {r : Reply} {after : List ℕ} where
@@ -126,7 +125,7 @@ module _ {b p : List ℕ} {r : Reply} {after : List ℕ} where
   clashed (done d a q) eleven = absurd (omega (arith, ap number q, eleven))
 
   -- and a packet that no reply from 1 to 9 refuses clashes where it has no picture with the taken facts
-  pub must_clash : take_refusal b p ≡ Done 0 → NoPicture (rig_of b) (taken b ++ rig_facts p) → Take b p r after → Clashed b p r after
+  pub must_clash : take_refusal b p ≡ Ok 0 → NoPicture (rig_of b) (taken b ++ rig_facts p) → Take b p r after → Clashed b p r after
   must_clash well f (take_refused e q _) = absurd (not_both e well)
   must_clash well f (clashes d i first q same) = record { goes_on = d; at = i; first = first; told = q; kept = same }
   must_clash well f (done d a q) = absurd (after_no_clash a f)

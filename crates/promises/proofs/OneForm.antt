@@ -3,26 +3,27 @@
 -- Assumes nothing.
 use mathlib.Core.Path.{◌≡◌, refl, sym, ap, ◌∙◌}
 use mathlib.Core.Logic.{by_cases}
-use mathlib.Core.Bool.{Bool, true, false, false≢true}
+use mathlib.Core.Bool.{Bool, true, false}
 use mathlib.Core.List.{List, [], ◌∷◌, ◌++◌}
 use Prim.Native.Nat.{ℕ, ◌+◌, ◌*◌, ◌/◌, ◌%◌, ◌<◌, ◌≤◌}
 use native.Mathlib.Omega.{arith}
 use native.Mathlib.Decide.{dec_lt}
 use native.Mathlib.Nat.{div-add-mod', mod-lt}
 use lib.ListN.{length, take, drop, take-append-drop}
-use lib.Seq.{ext_get_or}
+use Rattle.std.specs.Prelude.{Result, Ok, Err}
+use lib.Seq.{ext_get_or, take-take}
 use Rattle.kinds.specs.Kinds.{meet_at}
 use Rattle.kinds.specs.Laws.{Lawful}
 use Rattle.meaning.specs.Picture.{Fact}
 use Rattle.meaning.specs.Form.{Form}
-use Rattle.meaning.specs.Solving.{Taken, InRange}
+use Rattle.meaning.specs.Solving.{Taken, Refuted, InRange}
 use Rattle.meaning.specs.Asking.{Extends}
 use Rattle.meaning.proofs.SameForm.{SameForm}
 use Rattle.meaning.proofs.Unique.{taken_one}
-use Rattle.meaning.proofs.Takes.{taken_not_refuted}
+use Rattle.meaning.proofs.Takes.{taken_not_refuted, refuted_more}
 use Rattle.writing.specs.Putting.{Put}
 use Rattle.solver.specs.declared.Solved.{Solved}
-use Rattle.solver.specs.Unpacked.{form_of, Ready, Took}
+use Rattle.solver.specs.Unpacked.{form_of, Ready, Took, Stopped, Folded}
 use Rattle.solver.proofs.OneFact.{some_node}
 
 -- what `runs::same` allows
@@ -69,15 +70,46 @@ pub with_fact_one :
     → SameForm T U
 with_fact_one L pos t u = taken_one L pos t u
 
--- what it allows, taken or not, wherever it may be called: one flag, and one form where the flag is true
+-- one outcome: both are values that agree, or both are errors that do
+abbrev pub OneOutcome : {A B E F : Type 0} → Result A E → Result B F → (A → B → Type 0) → (E → F → Type 0) → Type 0
+OneOutcome (Ok x) (Ok y) P Q = P x y
+OneOutcome (Ok x) (Err e) P Q = ⊥
+OneOutcome (Err d) (Ok y) P Q = ⊥
+OneOutcome (Err d) (Err e) P Q = Q d e
+
+-- what it allows, taken or not, wherever it may be called: two forms that are one, or two clashes
 module _ {n v : ℕ} {table : List ℕ} {S : Form} (f : Fact ℕ) (ready : Ready n v table S) (in_range : InRange n v f) where
   pub next_one :
-      {T U : Form} (ok ok' : Bool) → Took n (meet_at n table) v S (f ∷ []) ok T → Took n (meet_at n table) v S (f ∷ []) ok' U →
-      (ok ≡ ok') × (ok ≡ true → SameForm T U)
-  next_one true true t u = (refl, λ e. with_fact_one ready.lawful (some_node n v f in_range) (t.taken refl) (u.taken refl))
-  next_one true false t u = absurd (taken_not_refuted ready.lawful (some_node n v f in_range) (t.taken refl) (u.refuted refl))
-  next_one false true t u = absurd (taken_not_refuted ready.lawful (some_node n v f in_range) (u.taken refl) (t.refuted refl))
-  next_one false false t u = (refl, λ e. absurd (false≢true e))
+      {A B E F : Type 0} (r : Result A E) (s : Result B F) (T : A → Form) (U : B → Form) → Took n (meet_at n table) v S (f ∷ []) r T
+      → Took n (meet_at n table) v S (f ∷ []) s U → OneOutcome r s (λ x y. SameForm (T x) (U y)) (λ _ _. Unit {0})
+  next_one (Ok x) (Ok y) T U t u = with_fact_one ready.lawful (some_node n v f in_range) t u
+  next_one (Ok x) (Err e) T U t u = taken_not_refuted ready.lawful (some_node n v f in_range) t u
+  next_one (Err d) (Ok y) T U t u = taken_not_refuted ready.lawful (some_node n v f in_range) u t
+  next_one (Err d) (Err e) T U t u = tt
+
+-- what `Solved::take_all` allows of the facts given: where all are taken one form, and else one place where it stops
+module _ {n v : ℕ} {meet : ℕ → ℕ → ℕ} (L : Lawful n meet) (pos : 0 < v) (S : Form) (fs : List (Fact ℕ)) where
+  -- the facts before a clash hold none
+  not_taken : {T : Form} (i j : ℕ) → Taken n meet v S (take j fs) T → Stopped n meet v S fs i → i < j → ⊥
+  not_taken i j t stop h =
+      let clash : Refuted n meet v S (take (i + 1) (take j fs)) = rw (take-take (i + 1) j fs (omega arith)) stop.refuted in
+      let more = refuted_more n meet v S (take (i + 1) (take j fs)) (drop (i + 1) (take j fs)) clash in
+      taken_not_refuted L pos t (rw (take-append-drop (i + 1) (take j fs)) at more)
+
+  not_all : {T : Form} (i : ℕ) → Taken n meet v S fs T → Stopped n meet v S fs i → ⊥
+  not_all i t stop =
+      let more = refuted_more n meet v S (take (i + 1) fs) (drop (i + 1) fs) stop.refuted in
+      taken_not_refuted L pos t (rw (take-append-drop (i + 1) fs) at more)
+
+  pub folded_one :
+      {A B : Type 0} (r : Result A ℕ) (s : Result B ℕ) (T U : Form) → Folded n meet v S fs r T → Folded n meet v S fs s U
+      → OneOutcome r s (λ _ _. SameForm T U) (λ i j. i ≡ j)
+  folded_one (Ok x) (Ok y) T U t u = with_fact_one L pos t u
+  folded_one (Ok x) (Err j) T U t u = not_all j t u
+  folded_one (Err i) (Ok y) T U t u = not_all i u t
+  folded_one (Err i) (Err j) T U t u =
+      by_cases (dec_lt i j) (λ h. absurd (not_taken i j u.before.1 t h))
+      (λ a. by_cases (dec_lt j i) (λ h. absurd (not_taken j i t.before.1 u h)) (λ b. omega (arith, a, b)))
 
 -- what `writing::put` allows: every byte and the place behind them
 pub put_one : {bytes s t u : List ℕ} {at e f : ℕ} → Put bytes at s t e → Put bytes at s u f → (t ≡ u) × (e ≡ f)

@@ -8,12 +8,11 @@ use Prim.Native.Nat.{ℕ, ◌<◌}
 use native.Mathlib.Omega.{arith}
 use lib.Dec.{eqb}
 use borrow.Author.Tests.{ne_eqb}
+use Rattle.std.specs.Prelude.{Ok, Err}
 use Rattle.replies.specs.declared.Cause.{Cause}
 use Rattle.replies.specs.declared.Cause.TheVariants.{BadSize, NoKind, LawBroken, BadBlock, BadLength, BadVersion, BadHeader, BadCount, BadPart}
 use Rattle.replies.specs.declared.Cause.TheVariants.{NotReached, Clash, ShortOutput, NoTerm, OutOfRange, TooManyFacts, NoTree}
-use Rattle.replies.specs.declared.Reply.{Reply}
-use Rattle.replies.specs.declared.Reply.TheVariants.{Done, Refused}
-use Rattle.replies.specs.Replies.{cause_number, number, place, third}
+use Rattle.replies.specs.Replies.{cause_number, number, place, third, Reply, refusal}
 use Rattle.promises.specs.HostReplies.{Reads}
 
 -- a reply's number fits a byte
@@ -36,8 +35,8 @@ cause_few TooManyFacts = (omega arith, omega arith)
 cause_few NoTree = (omega arith, omega arith)
 
 pub number_few : (r : Reply) → number r < 256
-number_few (Done t) = omega arith
-number_few (Refused c p) = (cause_few c).1
+number_few (Ok t) = omega arith
+number_few (Err r) = (cause_few r.0).1
 
 -- the causes in the order of their numbers
 causes : List Cause
@@ -74,14 +73,14 @@ cause_told NoTree = refl
 
 -- the reply that is read so
 reply_of : ℕ → ℕ → ℕ → Reply
-reply_of n p t = cond (eqb n 0) (Done t) (Refused (cause_of n) p)
+reply_of n p t = cond (eqb n 0) (Ok t) (refusal (cause_of n) p)
 
 reply_told : (r : Reply) → reply_of (number r) (place r) (third r) ≡ r
 unfolding reply_of
-reply_told (Done t) = refl
-reply_told (Refused c p) =
-    let some : cause_number c ≢ 0 = λ e. omega (arith, (cause_few c).0, e) in
-    rw (ne_eqb (cause_number c) 0 some, cause_told c)
+reply_told (Ok t) = refl
+reply_told (Err r) =
+    let some : cause_number r.0 ≢ 0 = λ e. omega (arith, (cause_few r.0).0, e) in
+    rw (ne_eqb (cause_number r.0) 0 some, cause_told r.0)
 
 -- one reply only is read so
 pub reads_one : {n p t : ℕ} {r s : Reply} → Reads r n p t → Reads s n p t → r ≡ s
@@ -98,6 +97,6 @@ reads_exactly r s = (λ e. record { number_is = ap number e; place_is = ap place
     own = record { number_is = refl; place_is = refl; third_is = refl }
 
 -- 11 is told for a clash alone
-pub number_clash : (r : Reply) → number r ≡ 11 → r ≡ Refused Clash (place r)
-number_clash (Done t) e = absurd (omega (arith, e))
-number_clash (Refused c p) e = ap (λ (x : Cause). Refused x p) (sym (cause_told c) ∙ ap cause_of e ∙ cause_told Clash)
+pub number_clash : (r : Reply) → number r ≡ 11 → r ≡ refusal Clash (place r)
+number_clash (Ok t) e = absurd (omega (arith, e))
+number_clash (Err r) e = ap (λ (x : Cause). refusal x r.1) (sym (cause_told r.0) ∙ ap cause_of e ∙ cause_told Clash)

@@ -8,11 +8,10 @@ use mathlib.Core.List.{List, [], ◌∷◌, ◌++◌, map}
 use Prim.Native.Nat.{ℕ, zero, suc, ◌+◌, ◌*◌}
 use lib.Dec.{eqb, ltb}
 use lib.ListN.{length, get_or}
+use Rattle.std.specs.Prelude.{Ok}
 use Rattle.replies.specs.declared.Cause.{Cause}
 use Rattle.replies.specs.declared.Cause.TheVariants.{BadSize, NoKind, LawBroken, BadBlock, BadLength, BadVersion, BadHeader, BadCount, BadPart}
-use Rattle.replies.specs.declared.Reply.{Reply}
-use Rattle.replies.specs.declared.Reply.TheVariants.{Done}
-use Rattle.replies.specs.Replies.{cause_number, number, unless, first_refusal}
+use Rattle.replies.specs.Replies.{cause_number, number, unless, first_refusal, Reply}
 use Rattle.replies.proofs.Laws.{Each, first_holds}
 use Rattle.runs.specs.Runs.{each, within}
 use Rattle.kinds.specs.Kinds.{meet_at}
@@ -57,7 +56,7 @@ pub open_gives : (n v : ℕ) (table b : List ℕ) → gives open_numbers (open_r
 unfolding open_reply law_reply first_breach listed
 open_gives n v table b =
     first_gives open_numbers _ (table_reply n table) (unless_gives open_numbers (sizes_fit n v table b) BadSize 0 refl refl, tt)
-    (first_gives open_numbers _ (Done 0) (laws_give (in_order n)) refl)
+    (first_gives open_numbers _ (Ok 0) (laws_give (in_order n)) refl)
   where
     law_gives : (law : Law) → gives open_numbers (law_reply n table law) ≡ true
     law_gives (entry p) = unless_gives open_numbers (ltb (get_or table p 0) n) NoKind p refl refl
@@ -78,7 +77,7 @@ pub block_gives :
     gives numbers (block_reply b) ≡ true
 unfolding block_reply
 block_gives numbers has_0 has_1 has_4 b =
-    first_gives numbers _ (Done 0)
+    first_gives numbers _ (Ok 0)
     (unless_gives numbers (eqb (length b) block_size) BadSize 0 has_0 has_1, (unless_gives numbers (well_formed b) BadBlock 0 has_0 has_4, tt))
     has_0
 
@@ -91,7 +90,7 @@ Early r = gives early_numbers r ≡ true
 
 unfit_gives : (fits : ℕ → Bool) (at : ℕ → ℕ) (i count : ℕ) → Early (first_unfit fits at i count)
 unfolding first_unfit each listed
-unfit_gives fits at i count = first_gives early_numbers _ (Done 0) (each_gives i count) refl
+unfit_gives fits at i count = first_gives early_numbers _ (Ok 0) (each_gives i count) refl
   where
     each_gives : (i count : ℕ) → Each Early (each (λ k. unless (fits (at k)) BadPart (at k)) i count)
     each_gives i zero = tt

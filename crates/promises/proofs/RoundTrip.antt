@@ -11,9 +11,8 @@ use native.Mathlib.Omega.{arith}
 use lib.Dec.{eqb}
 use lib.ListN.{length, length-map}
 use borrow.Author.Tests.{eqb-true, eqb-false, eq-eqb, le-leb}
-use Rattle.replies.specs.declared.Reply.{Reply}
-use Rattle.replies.specs.declared.Reply.TheVariants.{Done}
-use Rattle.replies.specs.Replies.{refuses}
+use Rattle.std.specs.Prelude.{Ok}
+use Rattle.replies.specs.Replies.{refuses, Reply}
 use Rattle.kinds.specs.Sizes.{Sized}
 use Rattle.meaning.specs.declared.RigJoint.{RigJoint}
 use Rattle.meaning.specs.Picture.{Fact, rename}
@@ -87,7 +86,7 @@ module _ {b : List ℕ} (g : GoodBlock b) where
   in_range = facts_in_range (kinds_of b) (joints_of b) g.well.well 0 (joints_of b) (omega arith)
 
   -- it is a well-formed packet for taking
-  pub solved_form_well : packet_reply (facts_wanted (joints_of b)) (kinds_of b) (joints_of b) (solved_form b) ≡ Done 0
+  pub solved_form_well : packet_reply (facts_wanted (joints_of b)) (kinds_of b) (joints_of b) (solved_form b) ≡ Ok 0
   solved_form_well = written_well (kinds_of b) (joints_of b) (facts_from (block_form b) 0 (joints_of b)) few in_range
 
   -- and says exactly the taken facts
@@ -101,7 +100,7 @@ module _ {b : List ℕ} (g : GoodBlock b) where
   abbrev pub fresh : List ℕ
   fresh = fresh_block (kinds_of b) (joints_of b) (table_of b)
 
-  pub fresh_well : block_reply fresh ≡ Done 0
+  pub fresh_well : block_reply fresh ≡ Ok 0
   fresh_well = block_done (fresh_good (kinds_of b) (joints_of b) (table_of b) sized g.well.v_high g.well.v_low g.well.passes)
 
   -- the block is one of the fresh block's rig
@@ -113,7 +112,7 @@ module _ {b : List ℕ} (g : GoodBlock b) where
         rig = same_rig b fresh refl (sym (fresh_table (kinds_of b) (joints_of b) (table_of b) sized g.well.v_high)) refl;
       }
 
-  not_refused : take_refusal fresh (solved_form b) ≡ Done 0
+  not_refused : take_refusal fresh (solved_form b) ≡ Ok 0
   not_refused = packet_decides fresh (solved_form b) (ap refuses fresh_well) ∙ solved_form_well
 
   -- a fresh block that takes the form has to satisfy the block's own taken facts
@@ -130,10 +129,10 @@ module _ {b : List ℕ} (g : GoodBlock b) where
       means : {fs : List (Fact RigJoint)} → taken b ≡ fs → SameMeaning (rig_of fresh) (taken b) fs
       means e = rw (← e) (λ P σ counts placed. (λ a. a, λ a. a))
 
-  fresh_takes : Take fresh (solved_form b) (Done (joints_of b - class_count b)) b
+  fresh_takes : Take fresh (solved_form b) (Ok (joints_of b - class_count b)) b
   fresh_takes =
       done not_refused after_fresh
-      (ap (λ (k : ℕ). Done (k - class_count b)) (sym (fresh_classes (kinds_of b) (joints_of b) (table_of b) sized g.well.v_high)))
+      (ap (λ (k : ℕ). Ok (k - class_count b)) (sym (fresh_classes (kinds_of b) (joints_of b) (table_of b) sized g.well.v_high)))
 
   -- over lent bytes of the right size
   module _ (lent : List ℕ) (size : length lent ≡ block_size) where
@@ -146,33 +145,33 @@ module _ {b : List ℕ} (g : GoodBlock b) where
         (both_true _ _ (eq-eqb (length (table_of b)) (kinds_of b * kinds_of b) sized.size) (eq-eqb (length lent) block_size size)))
 
     -- a session with the block's own n, V and table can be opened
-    pub can_open : open_reply (kinds_of b) (joints_of b) (table_of b) lent ≡ Done 0
+    pub can_open : open_reply (kinds_of b) (joints_of b) (table_of b) lent ≡ Ok 0
     can_open = then_table (kinds_of b) (joints_of b) (table_of b) lent sizes_fit_lem ∙ g.well.passes
 
     abbrev opened : List ℕ
     opened = open_block (kinds_of b) (joints_of b) (table_of b) lent
 
     -- it takes the solved form and then is the block, with a join for each class that the block has less than joints
-    pub taken_back : Take opened (solved_form b) (Done (joints_of b - class_count b)) b
+    pub taken_back : Take opened (solved_form b) (Ok (joints_of b - class_count b)) b
     taken_back =
-        subst (λ (x : List ℕ). Take x (solved_form b) (Done (joints_of b - class_count b)) b)
+        subst (λ (x : List ℕ). Take x (solved_form b) (Ok (joints_of b - class_count b)) b)
         (is_fresh (kinds_of b) (joints_of b) (table_of b) lent (ap refuses can_open)) fresh_takes
 
     -- and no other reply and no other block come of it
     pub only_back : {reply : Reply} {after : List ℕ} → Take opened (solved_form b) reply after →
-        (reply ≡ Done (joints_of b - class_count b)) × (after ≡ b)
+        (reply ≡ Ok (joints_of b - class_count b)) × (after ≡ b)
     only_back t = take_one t taken_back
 
 -- the round trip of a block over lent bytes: a session is opened with its n, V and table, takes its solved form, and is the block again, byte
 -- for byte
 pub record RoundTrip (b lent : List ℕ) : Type 0 where
-  pub opens : open_reply (kinds_of b) (joints_of b) (table_of b) lent ≡ Done 0
-  pub takes : Take (open_block (kinds_of b) (joints_of b) (table_of b) lent) (solved_form b) (Done (joints_of b - class_count b)) b
+  pub opens : open_reply (kinds_of b) (joints_of b) (table_of b) lent ≡ Ok 0
+  pub takes : Take (open_block (kinds_of b) (joints_of b) (table_of b) lent) (solved_form b) (Ok (joints_of b - class_count b)) b
   pub only : {reply : Reply} {after : List ℕ} → Take (open_block (kinds_of b) (joints_of b) (table_of b) lent) (solved_form b) reply after →
-      (reply ≡ Done (joints_of b - class_count b)) × (after ≡ b)
+      (reply ≡ Ok (joints_of b - class_count b)) × (after ≡ b)
 
 -- for every block that is refused neither with 1 nor with 4, and any lent bytes of the right size
-pub round_trip : (b lent : List ℕ) → block_reply b ≡ Done 0 → length lent ≡ block_size → RoundTrip b lent
+pub round_trip : (b lent : List ℕ) → block_reply b ≡ Ok 0 → length lent ≡ block_size → RoundTrip b lent
 round_trip b lent well size =
     let g = good_block b (ap refuses well) in
     record { opens = can_open g lent size; takes = taken_back g lent size; only = λ t. only_back g lent size t }

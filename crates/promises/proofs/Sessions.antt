@@ -11,7 +11,7 @@ use Prim.Native.Nat.{ℕ, ◌*◌}
 use native.Mathlib.Omega.{arith}
 use native.Mathlib.Decide.{dec_lt}
 use native.Mathlib.Nat.{mul-le-mul}
-use Rattle.replies.specs.declared.Reply.TheVariants.{Done}
+use Rattle.std.specs.Prelude.{Ok}
 use Rattle.replies.specs.Replies.{refuses}
 use Rattle.meaning.specs.declared.RigJoint.{RigJoint}
 use Rattle.meaning.specs.Picture.{Picture, Fact, All}
@@ -148,11 +148,11 @@ same_kinds {n} {n'} {v} {v'} {table} s s' =
 
 -- a well-formed packet sent to a session is refused at most for a clash
 pub sent_goes_on :
-    {n v : ℕ} {table b : List ℕ} {sent : List Sent} (p : List ℕ) → Session n v table sent b → packet_reply (facts_wanted v) n v p ≡ Done 0 →
-    take_refusal b p ≡ Done 0
+    {n v : ℕ} {table b : List ℕ} {sent : List Sent} (p : List ℕ) → Session n v table sent b → packet_reply (facts_wanted v) n v p ≡ Ok 0 →
+    take_refusal b p ≡ Ok 0
 sent_goes_on {b = b} p s well =
     packet_decides b p (ap refuses (block_done (session_good s)))
-    ∙ at_rig_lem (λ R. packet_reply (facts_wanted R.joints) R.kinds R.joints p ≡ Done 0) (sym (session_rig s)) well
+    ∙ at_rig_lem (λ R. packet_reply (facts_wanted R.joints) R.kinds R.joints p ≡ Ok 0) (sym (session_rig s)) well
 
 chosen_hold :
     {n : ℕ} (meet : ℕ → ℕ → ℕ) (P : Picture n) (σ : RigJoint → ℕ) (t : Bool) (fs gs : List (Fact RigJoint)) →

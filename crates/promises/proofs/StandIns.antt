@@ -6,9 +6,8 @@ use mathlib.Core.Logic.{◌↔◌, ◌≢◌}
 use mathlib.Core.Bool.{false, true≢false}
 use mathlib.Core.List.{List, ◌++◌, Memᴰ}
 use Prim.Native.Nat.{ℕ, ◌-◌}
-use Rattle.replies.specs.declared.Reply.{Reply}
-use Rattle.replies.specs.declared.Reply.TheVariants.{Done}
-use Rattle.replies.specs.Replies.{third, refuses}
+use Rattle.std.specs.Prelude.{Ok}
+use Rattle.replies.specs.Replies.{third, refuses, Reply}
 use Rattle.meaning.specs.declared.RigJoint.{RigJoint}
 use Rattle.meaning.specs.declared.Verdict.{Verdict}
 use Rattle.meaning.specs.declared.Verdict.TheVariants as verdict
@@ -34,7 +33,7 @@ use Rattle.promises.proofs.Demand3.{taken_since_opening}
 
 -- "refusing everything": a packet that no reply from 1 to 9 refuses is taken where some picture and placing satisfy it with the taken facts
 pub not_refused :
-    {b p after : List ℕ} {r : Reply} → take_refusal b p ≡ Done 0 →
+    {b p after : List ℕ} {r : Reply} → take_refusal b p ≡ Ok 0 →
     (P : Picture (rig_of b).kinds) (σ : RigJoint → ℕ) → Counts (rig_of b).profile P → Placing P σ → All (meet_of (rig_of b)) P σ (taken b ++ rig_facts p) → Take b p r after →
     refuses r ≡ false
 not_refused well P σ counts placed holds (take_refused e q _) = absurd (true≢false (sym e ∙ ap refuses well))
@@ -45,7 +44,7 @@ not_refused well P σ counts placed holds (done d a q) = ap refuses q
 -- what a taking that is done leaves
 pub record TakenSo (b p : List ℕ) (r : Reply) (after : List ℕ) : Type 0 where
   pub after_taking : After b (rig_facts p) after
-  pub told : r ≡ Done (class_count b - class_count after)
+  pub told : r ≡ Ok (class_count b - class_count after)
 
 pub took : {b p after : List ℕ} {r : Reply} → refuses r ≡ false → Take b p r after → TakenSo b p r after
 took e (take_refused d q _) = absurd (true≢false (sym d ∙ ap refuses (sym q) ∙ e))
@@ -62,7 +61,7 @@ stores {b} {p} t e new same =
     new (λ P σ c placed a. all_right (meet_of (rig_of b)) P σ (taken b) (rig_facts p) ((means P σ c placed).0 a))
 
 -- "an invented number of joins": it is fixed by the two blocks
-pub joins_told : {b p after : List ℕ} {joins : ℕ} → Take b p (Done joins) after → joins ≡ class_count b - class_count after
+pub joins_told : {b p after : List ℕ} {joins : ℕ} → Take b p (Ok joins) after → joins ≡ class_count b - class_count after
 joins_told t = ap third (took refl t).told
 
 -- "a session that takes only its first packet and afterwards just reports done": the facts of every packet that was reported done count at
@@ -84,8 +83,8 @@ judged_same R fs gs m r verdict.Waits j = (
 
 -- and so "on the next asking": a rule that no reply refuses is judged by the facts of every packet reported done since opening, and by no others
 pub asked_since_opening :
-    {n v : ℕ} {table b p : List ℕ} {sent : List Sent} {r : Reply} → Session n v table sent b → ask_refusal b p ≡ Done 0 →
-    ReachReply (rule_of p) (Done 0) → Ask b p r → (x : Verdict) →
+    {n v : ℕ} {table b p : List ℕ} {sent : List Sent} {r : Reply} → Session n v table sent b → ask_refusal b p ≡ Ok 0 →
+    ReachReply (rule_of p) (Ok 0) → Ask b p r → (x : Verdict) →
     Reads r 0 0 (verdict_number x) ↔ Judged (opened_rig n v table) (facts_taken sent) (rule_of p) x
 asked_since_opening {n} {v} {table} {b} {p} {sent} session well reached ask x = (
   λ e.

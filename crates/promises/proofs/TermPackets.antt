@@ -6,7 +6,7 @@ use mathlib.Core.List.{[], ◌∷◌, ◌++◌, map}
 use Prim.Native.Nat.{ℕ, ◌<◌, ◌≤◌}
 use lib.ListN.{length}
 use borrow.Author.Tests.{lt-ltb}
-use Rattle.replies.specs.declared.Reply.TheVariants.{Done}
+use Rattle.std.specs.Prelude.{Ok}
 use Rattle.meaning.specs.Picture.{rename}
 use Rattle.meaning.specs.Form.{rig_joint}
 use Rattle.packets.specs.Facts.{rig_facts}
@@ -55,12 +55,12 @@ module _ (n v : ℕ) where
         (each_append (In n v) (link_tokens l) (term_tokens t) (link_tokens_lem l r.0) (term_tokens_lem t r.1))
         (refl, argument_tokens_lem args r.2)
 
-  pub ranged_passes : (t : Term) → Ranged n v t → range_reply n v 0 (term_tokens t) ≡ Done 0
+  pub ranged_passes : (t : Term) → Ranged n v t → range_reply n v 0 (term_tokens t) ≡ Ok 0
   ranged_passes t r = tells n v 0 (term_tokens t) (term_tokens_lem t r)
 
   module _ (t : Term) where
-    pub term_packet_well : range_reply n v 0 (term_tokens t) ≡ Done 0 → length (term_facts t) ≤ most_facts →
-        packet_reply (facts_wanted v) n v (term_packet v t) ≡ Done 0
+    pub term_packet_well : range_reply n v 0 (term_tokens t) ≡ Ok 0 → length (term_facts t) ≤ most_facts →
+        packet_reply (facts_wanted v) n v (term_packet v t) ≡ Ok 0
     term_packet_well e few = written_well n v (term_facts t) few (facts_in_range n v t e)
 
     pub term_packet_says : rig_facts (term_packet v t) ≡ map (rename rig_joint) (term_facts t)

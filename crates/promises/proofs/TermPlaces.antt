@@ -5,8 +5,9 @@ use mathlib.Core.List.{List, [], ◌∷◌, ◌++◌}
 use Prim.Native.Nat.{ℕ, zero, suc, ◌≤◌}
 use native.Mathlib.Omega.{arith}
 use lib.ListN.{length, take, replicate}
+use Rattle.std.specs.Prelude.{Ok}
+use Rattle.replies.specs.Replies.{refusal}
 use Rattle.replies.specs.declared.Cause.TheVariants.{NoTerm as no_term_cause}
-use Rattle.replies.specs.declared.Reply.TheVariants.{Done, Refused}
 use Rattle.decimals.specs.Decimal.{digits}
 use Rattle.blocks.proofs.Shape.{block_done}
 use Rattle.terms.specs.Term.{Term, text_of, term_text, term_tokens}
@@ -26,14 +27,14 @@ use Rattle.promises.proofs.Readings.{reads_exactly}
 use Rattle.promises.proofs.ExampleBlock.{opened_good}
 
 -- a block opened with house kinds is refused no text of a size that may be lent
-pub opened_passes : (text : List ℕ) → length text ≤ longest_text → read_term_refusal opened text ≡ Done 0
+pub opened_passes : (text : List ℕ) → length text ≤ longest_text → read_term_refusal opened text ≡ Ok 0
 opened_passes text h = block_decides opened text h ∙ block_done opened_good
 
 stops : (text : List ℕ) (p : ℕ) → length text ≤ longest_text → NoTerm text p → StopsAt text p
 stops text p h none out r x =
     let told = no_term (opened_passes text h) p none refl refl in (
-      λ a. let e = read_term_one opened text out a told in ((reads_exactly r (Refused no_term_cause p)).0 e.0, e.1),
-      λ e. rw ((reads_exactly r (Refused no_term_cause p)).1 e.0, e.1) told,
+      λ a. let e = read_term_one opened text out a told in ((reads_exactly r (refusal no_term_cause p)).0 e.0, e.1),
+      λ e. rw ((reads_exactly r (refusal no_term_cause p)).1 e.0, e.1) told,
     )
 
 -- a text with whose first p bytes some term begins, and at p a byte, or its end, at which the machine dies

@@ -11,9 +11,8 @@ use native.Mathlib.Omega.{arith}
 use native.Mathlib.Decide.{dec_lt}
 use lib.ListN.{length, take, drop}
 use lib.Seq.{take-append_seam}
-use Rattle.replies.specs.declared.Reply.{Reply}
-use Rattle.replies.specs.declared.Reply.TheVariants.{Done}
-use Rattle.replies.specs.Replies.{refuses, third}
+use Rattle.std.specs.Prelude.{Ok}
+use Rattle.replies.specs.Replies.{refuses, third, Reply}
 use Rattle.meaning.proofs.Classes.{classes_all}
 use Rattle.meaning.specs.declared.RigJoint.{RigJoint}
 use Rattle.meaning.specs.Picture.{Fact, rename}
@@ -66,7 +65,7 @@ Exactly Allows result = (reply : Reply) (after : List ℕ) → Allows reply afte
 
 -- bytes put into a lent output: their number as third, and the rest of the output as it was
 abbrev pub puts : List ℕ → List ℕ → Reply × List ℕ
-puts bytes out = (Done (length bytes), bytes ++ drop (length bytes) out)
+puts bytes out = (Ok (length bytes), bytes ++ drop (length bytes) out)
 
 exactly : {Allows : Reply → List ℕ → Type 0} {r : Reply} {x : List ℕ} → Allows r x →
     ((reply : Reply) (after : List ℕ) → Allows reply after → (reply ≡ r) × (after ≡ x)) → Exactly Allows (r, x)
@@ -79,7 +78,7 @@ module _ {b : List ℕ} (g : GoodBlock b) {root : ℕ} (inside : root < joints_o
   few : length (term_facts (tree_term b root)) ≤ 1088
   few = tree_few g.well.well tree inside g.well.v_high
 
-  in_range : range_reply (kinds_of b) (joints_of b) 0 (term_tokens (tree_term b root)) ≡ Done 0
+  in_range : range_reply (kinds_of b) (joints_of b) 0 (term_tokens (tree_term b root)) ≡ Ok 0
   in_range = ranged_passes (kinds_of b) (joints_of b) (tree_term b root) (tree_ranged g.well.well tree inside)
 
   -- the text reads as the term of the tree, and as no other; kinds but 1 are written in it, and links rise
@@ -95,14 +94,14 @@ module _ {b : List ℕ} (g : GoodBlock b) {root : ℕ} (inside : root < joints_o
   text_short = omega (arith, written_short b root g inside tree)
 
   -- a fresh block reads it
-  fresh_reads : read_term_refusal (fresh g) (written_text b root) ≡ Done 0
+  fresh_reads : read_term_refusal (fresh g) (written_text b root) ≡ Ok 0
   fresh_reads = block_decides (fresh g) (written_text b root) text_short ∙ fresh_well g
 
   readable : (out : List ℕ) → length (tree_packet b root) ≤ length out → Readable (fresh g) (tree_term b root) out
   readable out room = record { in_range = in_range; few = few; room = room }
 
   -- and takes its packet, which means what the block's taken facts mean
-  not_refused : take_refusal (fresh g) (tree_packet b root) ≡ Done 0
+  not_refused : take_refusal (fresh g) (tree_packet b root) ≡ Ok 0
   not_refused =
       packet_decides (fresh g) (tree_packet b root) (ap refuses (fresh_well g))
       ∙ term_packet_well (kinds_of b) (joints_of b) (tree_term b root) in_range few
@@ -126,10 +125,10 @@ module _ {b : List ℕ} (g : GoodBlock b) {root : ℕ} (inside : root < joints_o
           let same = tree_means g.well.well tree inside meet P (by_number σ) in
           (λ a. term.1 (same.1 (form.0 a)), λ a. form.1 (same.0 (term.0 a))))
 
-  fresh_takes : Take (fresh g) (tree_packet b root) (Done 0) b
+  fresh_takes : Take (fresh g) (tree_packet b root) (Ok 0) b
   fresh_takes =
       done not_refused after_fresh
-      (ap Done
+      (ap Ok
       (omega (
         arith,
         fresh_classes (kinds_of b) (joints_of b) (table_of b) (sized g) g.well.v_high,
@@ -152,12 +151,12 @@ module _ {b : List ℕ} (g : GoodBlock b) {root : ℕ} (inside : root < joints_o
         (reads (fresh g) (written_text b root) out fresh_reads (tree_term b root) text_reads (readable out room))
         (λ r x a. reads_only (fresh g) (written_text b root) out fresh_reads (tree_term b root) text_reads (readable out room) a))
 
-    taken_back : Exactly (Take opened (tree_packet b root)) (Done 0, b)
+    taken_back : Exactly (Take opened (tree_packet b root)) (Ok 0, b)
     taken_back =
-        subst (λ (x : List ℕ). Exactly (Take x (tree_packet b root)) (Done 0, b)) opened_fresh (exactly fresh_takes (λ r x a. take_one a fresh_takes))
+        subst (λ (x : List ℕ). Exactly (Take x (tree_packet b root)) (Ok 0, b)) opened_fresh (exactly fresh_takes (λ r x a. take_one a fresh_takes))
 
   -- writing from the joint gives the text, and nothing else
-  write_passes : write_term_refusal b root ≡ Done 0
+  write_passes : write_term_refusal b root ≡ Ok 0
   write_passes = writes_unrefused b root (ap refuses (block_done g)) inside
 
   module _ (out : List ℕ) (room : length (written_text b root) ≤ length out) where
@@ -169,14 +168,14 @@ module _ {b : List ℕ} (g : GoodBlock b) {root : ℕ} (inside : root < joints_o
 -- the trip of a block over lent bytes by the text from the joint `root`: a session is opened with its n, V and table, reads the text, takes the
 -- packet with no join, and is the block again, byte for byte; and the same text is written from it. Nothing else comes of these calls
 pub record TermTrip (b : List ℕ) (root : ℕ) (lent : List ℕ) : Type 0 where
-  pub opens : open_reply (kinds_of b) (joints_of b) (table_of b) lent ≡ Done 0
+  pub opens : open_reply (kinds_of b) (joints_of b) (table_of b) lent ≡ Ok 0
   pub reads : (out : List ℕ) → length (tree_packet b root) ≤ length out →
       Exactly (ReadTerm (open_block (kinds_of b) (joints_of b) (table_of b) lent) (written_text b root) out) (puts (tree_packet b root) out)
-  pub takes : Exactly (Take (open_block (kinds_of b) (joints_of b) (table_of b) lent) (tree_packet b root)) (Done 0, b)
+  pub takes : Exactly (Take (open_block (kinds_of b) (joints_of b) (table_of b) lent) (tree_packet b root)) (Ok 0, b)
   pub writes : (out : List ℕ) → length (written_text b root) ≤ length out → Exactly (WriteTerm b root out) (puts (written_text b root) out)
 
 -- for every block that is refused neither with 1 nor with 4 and is a tree from that joint, and any lent bytes of the right size
-pub term_trip : (b : List ℕ) (root : ℕ) (lent : List ℕ) → block_reply b ≡ Done 0 → root < joints_of b → TreeFrom (joints_of b) (block_form b) root →
+pub term_trip : (b : List ℕ) (root : ℕ) (lent : List ℕ) → block_reply b ≡ Ok 0 → root < joints_of b → TreeFrom (joints_of b) (block_form b) root →
     length lent ≡ block_size → TermTrip b root lent
 term_trip b root lent well inside tree size =
     let g = good_block b (ap refuses well) in

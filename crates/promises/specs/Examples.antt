@@ -1,8 +1,8 @@
 -- The examples P1 to P12 as one list, and before it their packets, byte by byte: L in two bytes, version, purpose, ties, joint count, then the
 -- ties (rule joint, rig joint) and the facts. House kinds, V = 4. Behind them the example of a rig typed as a term, and places of 20.
 -- Assumes nothing.
+use Rattle.replies.specs.Replies.{Reply}
 use Rattle.std.specs.Prelude.{◌≡◌, ◌↔◌, List, [], ◌∷◌, ◌++◌, ℕ, zero, suc, ◌≤◌, length, drop}
-use Rattle.replies.specs.declared.Reply.{Reply}
 use Rattle.kinds.specs.Kinds.{meet_at}
 use Rattle.house.specs.Meets.{house_table}
 use Rattle.meaning.specs.declared.Verdict.{Verdict}

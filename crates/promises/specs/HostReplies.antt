@@ -2,8 +2,7 @@
 -- the numbers listed for each call, with 0 for done.
 -- Assumes nothing.
 use Rattle.std.specs.Prelude.{◌≡◌, Bool, false, ◌||◌, List, [], ◌∷◌, ℕ, ◌/◌, ◌%◌, ◌^◌, eqb}
-use Rattle.replies.specs.declared.Reply.{Reply}
-use Rattle.replies.specs.Replies.{number, place, third}
+use Rattle.replies.specs.Replies.{number, place, third, Reply}
 
 -- the reply has this number, this place and this third number
 pub record Reads (r : Reply) (n p t : ℕ) : Type 0 where

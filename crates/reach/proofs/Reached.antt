@@ -6,10 +6,9 @@ use mathlib.Core.Bool.{false, true≢false}
 use Prim.Native.Nat.{ℕ, ◌<◌}
 use native.Mathlib.Omega.{arith}
 use native.Mathlib.Decide.{dec_lt}
-use Rattle.replies.specs.Replies.{third, refuses}
-use Rattle.replies.specs.declared.Reply.{Reply}
+use Rattle.std.specs.Prelude.{Ok}
+use Rattle.replies.specs.Replies.{third, refuses, Reply, refusal}
 use Rattle.replies.specs.declared.Cause.TheVariants.{NotReached}
-use Rattle.replies.specs.declared.Reply.TheVariants.{Done, Refused}
 use Rattle.replies.proofs.Laws.{done}
 use Rattle.meaning.specs.Rule.{Rule, Reached, rule_joint}
 use Rattle.reach.specs.Reached.{SmallestNot, ReachReply}
@@ -26,7 +25,7 @@ smallest_one : {Is : ℕ → Type 0} {n : ℕ} {r s : Reply} → SmallestNot Is 
 smallest_one (all a) (all b) = refl
 smallest_one (all a) (not_reached j h x b) = absurd (x (a j h))
 smallest_one (not_reached j h x b) (all a) = absurd (x (a j h))
-smallest_one (not_reached j h x b) (not_reached k i y d) = ap (Refused NotReached) (smallest j k x b y d)
+smallest_one (not_reached j h x b) (not_reached k i y d) = ap (refusal NotReached) (smallest j k x b y d)
 
 -- it allows one reply
 pub reach_one : {r : Rule} {x y : Reply} → ReachReply r x → ReachReply r y → x ≡ y
@@ -52,8 +51,8 @@ module _ {r : Rule} {x : Reply} (a : ReachReply r x) where
   pub reach_third : third x ≡ 0
   reach_third = smallest_third a
 
-  pub reach_done : refuses x ≡ false → x ≡ Done 0
-  reach_done e = done x e ∙ ap Done reach_third
+  pub reach_done : refuses x ≡ false → x ≡ Ok 0
+  reach_done e = done x e ∙ ap Ok reach_third
 
   pub all_reached : refuses x ≡ false → (j : ℕ) → j < r.joints → Reached r (rule_joint j)
   all_reached e = smallest_all a e

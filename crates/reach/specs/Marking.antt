@@ -1,12 +1,11 @@
 -- Marks on a rule's joints, by which the reached ones are found, and which joint leads to which. A set of joints is a number, whose bit j is 1
 -- where j is in it. No call cites these: they stand between reply 10 and its code.
 -- Assumes nothing.
-use Rattle.std.specs.Prelude.{◌≡◌, ◌≢◌, List, ℕ, ◌/◌, ◌%◌, ◌^◌, ◌≤◌, ◌<◌, length, get_or}
+use Rattle.std.specs.Prelude.{◌≡◌, ◌≢◌, List, ℕ, ◌/◌, ◌%◌, ◌^◌, ◌≤◌, ◌<◌, length, get_or, Ok}
 use Rattle.meaning.specs.declared.RuleJoint.{RuleJoint}
 use Rattle.meaning.specs.Picture.{Fact}
 use Rattle.meaning.specs.Picture.Fact.{leads}
 use Rattle.meaning.specs.Rule.{Reached, rule_joint}
-use Rattle.replies.specs.declared.Reply.TheVariants.{Done}
 use Rattle.packets.specs.Packet.{byte, ties, tie_at, fact_at, fact_count}
 use Rattle.packets.specs.Facts.{fact_of, rule_of}
 use Rattle.screening.specs.Screening.{rule_wanted, packet_reply}
@@ -15,7 +14,7 @@ use Rattle.screening.specs.Screening.{rule_wanted, packet_reply}
 pub record RulePacket (p : List ℕ) : Type 0 where
   pub n : ℕ
   pub v : ℕ
-  pub well : packet_reply rule_wanted n v p ≡ Done 0
+  pub well : packet_reply rule_wanted n v p ≡ Ok 0
 
 -- the i-th fact of a rule
 abbrev pub nth_fact : List ℕ → ℕ → Fact RuleJoint

@@ -1,11 +1,11 @@
 // The replies of every call: done, or refused for a cause that has its number in the table 'Replies'.
 #![tactic(auto)]
 
-ghost use Rattle.std.specs.Prelude.{◌≡◌, [], ◌∷◌, ◌^◌, ◌<◌};
-ghost use Rattle.replies.specs.Replies.{cause_number, number, place, third, packed, refuses, first_refusal};
+ghost use Rattle.std.specs.Prelude.{◌≡◌, ◌^◌, ◌<◌};
+ghost use Rattle.replies.specs.Replies.{cause_number, number, place, third, packed};
 
 // Why a call is refused.
-#[derive(Clone, Copy)]
+#[derive(Clone, Copy, Debug, PartialEq, Eq)]
 pub enum Cause {
     // 1: n or V out of range, a lent slice that has not its size, or a text that is too long.
     BadSize,
@@ -41,44 +41,48 @@ pub enum Cause {
     NoTree,
 }
 
-#[derive(Clone, Copy)]
-pub enum Reply {
-    // Done, with the third number.
-    Done(u32),
-    // Refused, with the place.
-    Refused(Cause, u32),
-}
+// Refused for a cause, at a place.
+#[derive(Clone, Copy, Debug, PartialEq, Eq)]
+pub struct Refusal(pub Cause, pub u32);
+
+// Done, with the third number; or refused.
+pub type Reply = Result<u32, Refusal>;
 
 // The one table from a cause to its number.
-pub fn cause_number(c: Cause) -> u8
-    ensures { result ≡ cause_number c }
-{
-    match c {
-        Cause::BadSize => 1,
-        Cause::NoKind => 2,
-        Cause::LawBroken => 3,
-        Cause::BadBlock => 4,
-        Cause::BadLength => 5,
-        Cause::BadVersion => 6,
-        Cause::BadHeader => 7,
-        Cause::BadCount => 8,
-        Cause::BadPart => 9,
-        Cause::NotReached => 10,
-        Cause::Clash => 11,
-        Cause::ShortOutput => 12,
-        Cause::NoTerm => 20,
-        Cause::OutOfRange => 21,
-        Cause::TooManyFacts => 22,
-        Cause::NoTree => 23,
+impl From<Cause> for u8 {
+    ghost from_gives = { λ c r. r ≡ cause_number c };
+
+    fn from(c: Cause) -> u8
+        ensures { result ≡ cause_number c }
+    {
+        match c {
+            Cause::BadSize => 1,
+            Cause::NoKind => 2,
+            Cause::LawBroken => 3,
+            Cause::BadBlock => 4,
+            Cause::BadLength => 5,
+            Cause::BadVersion => 6,
+            Cause::BadHeader => 7,
+            Cause::BadCount => 8,
+            Cause::BadPart => 9,
+            Cause::NotReached => 10,
+            Cause::Clash => 11,
+            Cause::ShortOutput => 12,
+            Cause::NoTerm => 20,
+            Cause::OutOfRange => 21,
+            Cause::TooManyFacts => 22,
+            Cause::NoTree => 23,
+        }
     }
 }
 
+// The numbers of a reply. Functions and no methods, since `Reply` is std's `Result`.
 pub fn number_of(r: Reply) -> u8
     ensures { result ≡ number r }
 {
     match r {
-        Reply::Done(_) => 0,
-        Reply::Refused(cause, _) => cause_number(cause),
+        Ok(_) => 0,
+        Err(Refusal(cause, _)) => u8::from(cause),
     }
 }
 
@@ -86,37 +90,16 @@ pub fn place_of(r: Reply) -> u32
     ensures { result ≡ place r }
 {
     match r {
-        Reply::Done(_) => 0,
-        Reply::Refused(_, place) => place,
+        Ok(_) => 0,
+        Err(Refusal(_, place)) => place,
     }
 }
 
+// A refusal has third 0.
 pub fn third_of(r: Reply) -> u32
     ensures { result ≡ third r }
 {
-    match r {
-        Reply::Done(third) => third,
-        Reply::Refused(_, _) => 0,
-    }
-}
-
-pub fn is_refusal(r: Reply) -> bool
-    ensures { result ≡ refuses r }
-{
-    match r {
-        Reply::Done(_) => false,
-        Reply::Refused(_, _) => true,
-    }
-}
-
-// The first of two that refuses; the second where neither does.
-pub fn first_of(a: Reply, b: Reply) -> Reply
-    ensures { result ≡ first_refusal (a ∷ []) b }
-{
-    if is_refusal(a) {
-        return a;
-    }
-    b
+    r.unwrap_or(0)
 }
 
 // The one number that the host gets. A third number of 24 bits leaves the place its own 32.
@@ -124,8 +107,8 @@ pub fn to_host(r: Reply) -> u64
     requires { third r < 2 ^ 24 }
     ensures { result ≡ packed r }
 {
-    let number = number_of(r);
-    let third = third_of(r);
-    let place = place_of(r);
-    (number as u64) + 256 * (third as u64) + 4294967296 * (place as u64)
+    let number = u64::from(number_of(r));
+    let third = u64::from(third_of(r));
+    let place = u64::from(place_of(r));
+    number + 256 * third + 4294967296 * place
 }

@@ -4,12 +4,11 @@ use Rattle.std.proofs.Common.{◌≡◌, refl, sym, ap, ◌∙◌, Bool, true, f
 use Rattle.std.specs.Prelude.{Option, IfSome, min, leb, ltb}
 use borrow.Author.Tests.{leb-true, le-leb, lt-leb, ltb-false}
 use Rattle.std.specs.Io.KnownBytes.{Appends}
-use Rattle.lines.specs.declared.Line.{Line}
 use Rattle.rigcheck.specs.declared.Step.{Step}
 use Rattle.rigcheck.specs.declared.Step.TheVariants.{End, Cut, Long, Packet}
 use Rattle.rigcheck.specs.Lines.{step_of, goes_on, Turn}
 use Rattle.rigcheck.specs.Lines.Turn.{no_packet, cut_in_length, too_long, cut_behind, whole}
-use Rattle.rigcheck.specs.Input.{text_of, step_at, behind, ReadUpTo, TurnOn}
+use Rattle.rigcheck.specs.Input.{step_at, behind, ReadUpTo, TurnOn}
 
 at_front : (got : ℕ) (p ys : List ℕ) → 2 ≤ length p → got ≤ 2 → (got < 2 → ys ≡ []) → step_of got p ≡ step_at (take got p ++ ys)
 unfolding step_of
@@ -61,8 +60,8 @@ same_test : (size a b : ℕ) → (size ≤ a → size ≤ b) → (a < size → b
 same_test size a b f g = grind (arith, leb-true, le-leb, lt-leb)
 
 pub turn_at :
-    {b p xs : List ℕ} {step : Step} {rest : ℕ} {l : Line} {after : List ℕ} {r : Option (List ℕ)} → ((size : ℕ) → step ≡ Packet size → Lies size rest p xs r)
-    → Turn b p step rest l after → Turn b xs step (behind xs) l after
+    {b p xs text : List ℕ} {step : Step} {rest : ℕ} {after : List ℕ} {r : Option (List ℕ)} → ((size : ℕ) → step ≡ Packet size → Lies size rest p xs r)
+    → Turn b p step rest text after → Turn b xs step (behind xs) text after
 turn_at f (no_packet s e a) = no_packet s e a
 turn_at f (cut_in_length s e a) = cut_in_length s e a
 turn_at f (too_long s e a) = too_long s e a
@@ -88,19 +87,19 @@ unfolding step_of
 both_read got p {size} e = ltb-false got 2 (not_cut _ (ltb got 2) _ _ size e)
 
 pub turn_on :
-    {b after p₁ p₂ : List ℕ} {got rest : ℕ} {step : Step} {l : Line} {more : Bool} {r₀ r₁ r₂ : Option (List ℕ)} (h₀ h₁ : Option (List ℕ)) → 2 ≤ length p₁
+    {b after p₁ p₂ text : List ℕ} {got rest : ℕ} {step : Step} {more : Bool} {r₀ r₁ r₂ : Option (List ℕ)} (h₀ h₁ : Option (List ℕ)) → 2 ≤ length p₁
     → step ≡ step_of got p₁ → ((size : ℕ) → step ≡ Packet size → (got ≡ 2) × (2 + size ≤ length p₂)) → take 2 p₂ ≡ take 2 p₁
-    → ReadUpTo 2 got r₀ r₁ p₁ → ((size : ℕ) → step ≡ Packet size → ReadUpTo size rest r₁ r₂ (drop 2 p₂)) → Turn b p₂ step rest l after
-    → Appends h₀ h₁ (text_of l) → more ≡ goes_on step rest → IfSome r₀ (λ xs. TurnOn b xs more r₂ h₀ h₁ after)
+    → ReadUpTo 2 got r₀ r₁ p₁ → ((size : ℕ) → step ≡ Packet size → ReadUpTo size rest r₁ r₂ (drop 2 p₂)) → Turn b p₂ step rest text after
+    → Appends h₀ h₁ text → more ≡ goes_on step rest → IfSome r₀ (λ xs. TurnOn b xs more r₂ h₀ h₁ after)
 turn_on {r₀ = None} h₀ h₁ h s w k t u turn said m = tt
 turn_on {r₀ = Some xs} {r₁ = None} h₀ h₁ h s w k t u turn said m = absurd t.taken
-turn_on {p₁ = p₁} {p₂ = p₂} {got = got} {rest = rest} {step = step} {l = l} {r₀ = Some xs} {r₁ = Some ys} {r₂ = r₂} h₀ h₁ h s w k t u turn said m =
+turn_on {p₁ = p₁} {p₂ = p₂} {text = text} {got = got} {rest = rest} {step = step} {r₀ = Some xs} {r₁ = Some ys} {r₂ = r₂} h₀ h₁ h s w k t u turn said m =
     let here : step ≡ step_at xs = s ∙ same_step got p₁ xs ys h t.within t.taken t.short in
     let at : (size : ℕ) → step ≡ Packet size → Lies size rest p₂ xs r₂ = λ size e.
     let q = w size e in
     lies size rest p₂ xs ys r₂ q.1 (t.taken ∙ ap (λ n. take n p₁ ++ ys) q.0 ∙ ap (λ ns. ns ++ ys) (sym k)) (u size e) in
     record {
-      line = l;
+      text = text;
       turn = rw (← here) (turn_at at turn);
       wrote = said;
       goes = m ∙ goes_at step at ∙ ap (λ x. goes_on x (behind xs)) here;

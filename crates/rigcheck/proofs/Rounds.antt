@@ -1,17 +1,16 @@
 -- How the turns of a run make up what it prints.
 -- Assumes nothing.
-use Rattle.std.proofs.Common.{◌≡◌, refl, sym, ap, ◌∙◌, subst, Bool, true, false, ℕ, ◌+◌, ◌-◌, ◌*◌, ◌≤◌, ◌<◌, List, [], ◌∷◌, ◌++◌, length, drop, arith, append_assoc, length-drop, None, Some, Ok, Err, zero, suc, take, get_or}
-use Rattle.std.specs.Prelude.{Option, Result, OnOk, IfSome, min, ◌^◌}
+use Rattle.std.proofs.Common.{◌≡◌, refl, sym, ap, ◌∙◌, subst, Bool, true, false, ℕ, ◌+◌, ◌-◌, ◌*◌, ◌≤◌, ◌<◌, List, [], ◌∷◌, ◌++◌, length, drop, arith, append_assoc, length-drop, None, Some, zero, suc, take, get_or}
+use Rattle.std.specs.Prelude.{Option, IfSome, min, ◌^◌}
 use borrow.Author.Tests.{true-leb}
 use Rattle.std.specs.Io.KnownBytes.{Appends}
 use Rattle.std.proofs.KnownBytes.{Appends-nil, Appends-trans}
 use Rattle.rigcheck.specs.declared.Step.{Step}
 use Rattle.rigcheck.specs.declared.Step.TheVariants.{End, Cut, Long, Packet}
 use Rattle.blocks.specs.Layout.{block_size}
-use Rattle.lines.specs.declared.Line.{Line}
 use Rattle.rigcheck.specs.Lines.{goes_on, Opening}
 use Rattle.rigcheck.proofs.Fronts.{both_read}
-use Rattle.rigcheck.specs.Input.{text_of, step_at, behind, ReadUpTo, TurnOn, Packets, Run}
+use Rattle.rigcheck.specs.Input.{step_at, behind, ReadUpTo, TurnOn, Packets, Run}
 use Rattle.rigcheck.specs.Input.Run.{refused, opened}
 use Rattle.rigcheck.specs.Input.Packets.{last, next}
 
@@ -53,9 +52,9 @@ one_more {b₀} {xs} {h₀} {turns} {b} {ys} {r} {h} {h'} {b'} s t =
       drop (2 + size) ys,
       t.left_is size w.1 w.2,
       record {
-        said = s.said ++ text_of t.line;
-        wrote = Appends-trans h₀ h h' s.said (text_of t.line) s.wrote t.wrote;
-        whole = λ text after p. rw append_assoc (s.whole (text_of t.line ++ text) after (next size t.line b' text w.1 w.2 t.turn p refl));
+        said = s.said ++ t.text;
+        wrote = Appends-trans h₀ h h' s.said t.text s.wrote t.wrote;
+        whole = λ text after p. rw append_assoc (s.whole (t.text ++ text) after (next size t.text b' text w.1 w.2 t.turn p refl));
         fewer = omega (arith, s.fewer, rest, there);
       },
     )
@@ -75,8 +74,8 @@ at_last b₀ None h₀ turns b r h b' r' h' m s t = tt
 at_last b₀ (Some xs) h₀ turns b None h b' r' h' m s t = absurd (cc s.1)
 at_last b₀ (Some xs) h₀ turns b (Some zs) h b' r' h' {more} m (ys, e, s) t = λ few.
     let q : ys ≡ zs = cc in
-    let p : Packets b' b ys (text_of t.line) = subst (λ l. Packets b' b l (text_of t.line)) (sym q) (last t.line t.turn (sym t.goes ∙ m) refl) in
-    (s.said ++ text_of t.line, s.whole (text_of t.line) b' p, Appends-trans h₀ h h' s.said (text_of t.line) s.wrote t.wrote)
+    let p : Packets b' b ys t.text = subst (λ l. Packets b' b l t.text) (sym q) (last t.turn (sym t.goes ∙ m)) in
+    (s.said ++ t.text, s.whole t.text b' p, Appends-trans h₀ h h' s.said t.text s.wrote t.wrote)
 
 pub no_such_input :
     (b₀ : List ℕ) (r₀ h₀ : Option (List ℕ)) (turns : ℕ) (b : List ℕ) (r h : Option (List ℕ)) → 2 ^ 64 - 1 ≤ turns → SoFar b₀ r₀ h₀ turns b r h
@@ -95,29 +94,25 @@ abbrev pub RunText : Option (List ℕ) → Option (List ℕ) → Option (List �
 RunText r₀ h₀ h = IfSome r₀ (λ xs. length xs < 2 ^ 64 → (text : List ℕ) × Run xs text × Appends h₀ h text)
 
 pub run_refused :
-    {got : ℕ} {bytes b b' : List ℕ} {l : Line} {ends : Bool} {r₀ r₁ : Option (List ℕ)} (h₀ h₁ : Option (List ℕ)) → length bytes ≡ 1
-    → (got ≡ 0 → ⊥) → ReadUpTo (length bytes) got r₀ r₁ bytes → length b ≡ block_size → Opening (get_or bytes 0 0) b l ends b' → ends ≡ true → Appends h₀ h₁ (text_of l)
+    {got : ℕ} {bytes b b' text : List ℕ} {ends : Bool} {r₀ r₁ : Option (List ℕ)} (h₀ h₁ : Option (List ℕ)) → length bytes ≡ 1
+    → (got ≡ 0 → ⊥) → ReadUpTo (length bytes) got r₀ r₁ bytes → length b ≡ block_size → Opening (get_or bytes 0 0) b text ends b' → ends ≡ true → Appends h₀ h₁ text
     → RunText r₀ h₀ h₁
 run_refused {r₀ = None} h₀ h₁ s n t k o e w = tt
 run_refused {r₀ = Some xs} {r₁ = None} h₀ h₁ s n t k o e w = absurd t.taken
-run_refused {got} {bytes} {b} {b'} {l} {ends} {r₀ = Some xs} {r₁ = Some ys} h₀ h₁ s n t k o e w = λ few.
-    (text_of l, refused (get_or bytes 0 0) ys b l b' (first_byte got bytes xs ys s (omega (arith, s, t.within)) n t.taken) k (subst (λ x. Opening (get_or bytes 0 0) b l x b') e o) refl, w)
+run_refused {got} {bytes} {b} {b'} {text} {ends} {r₀ = Some xs} {r₁ = Some ys} h₀ h₁ s n t k o e w = λ few.
+    (text, refused (get_or bytes 0 0) ys b b' (first_byte got bytes xs ys s (omega (arith, s, t.within)) n t.taken) k (subst (λ x. Opening (get_or bytes 0 0) b text x b') e o), w)
 
 pub run_opened :
-    {got : ℕ} {bytes b b' : List ℕ} {l : Line} {ends : Bool} {r₀ r₁ : Option (List ℕ)} (b'' : List ℕ) (h₀ h₁ h₂ : Option (List ℕ)) → length bytes ≡ 1
-    → (got ≡ 0 → ⊥) → ReadUpTo (length bytes) got r₀ r₁ bytes → length b ≡ block_size → Opening (get_or bytes 0 0) b l ends b' → ends ≡ false → Appends h₀ h₁ (text_of l)
+    {got : ℕ} {bytes b b' text : List ℕ} {ends : Bool} {r₀ r₁ : Option (List ℕ)} (b'' : List ℕ) (h₀ h₁ h₂ : Option (List ℕ)) → length bytes ≡ 1
+    → (got ≡ 0 → ⊥) → ReadUpTo (length bytes) got r₀ r₁ bytes → length b ≡ block_size → Opening (get_or bytes 0 0) b text ends b' → ends ≡ false → Appends h₀ h₁ text
     → Whole b' r₁ h₁ b'' h₂ → RunText r₀ h₀ h₂
 run_opened {r₀ = None} b'' h₀ h₁ h₂ s n t k o e w all = tt
 run_opened {r₀ = Some xs} {r₁ = None} b'' h₀ h₁ h₂ s n t k o e w all = absurd t.taken
-run_opened {got} {bytes} {b} {b'} {l} {ends} {r₀ = Some xs} {r₁ = Some ys} b'' h₀ h₁ h₂ s n t k o e w all = λ few.
+run_opened {got} {bytes} {b} {b'} {text} {ends} {r₀ = Some xs} {r₁ = Some ys} b'' h₀ h₁ h₂ s n t k o e w all = λ few.
     let front : xs ≡ get_or bytes 0 0 ∷ ys = first_byte got bytes xs ys s (omega (arith, s, t.within)) n t.taken in
     let longer : length xs ≡ suc (length ys) = ap length front in
     let more = all (omega (arith, longer, few)) in (
-      text_of l ++ more.0,
-      opened (get_or bytes 0 0) ys b l b' more.0 b'' front k (subst (λ x. Opening (get_or bytes 0 0) b l x b') e o) more.1 refl,
-      Appends-trans h₀ h₁ h₂ (text_of l) more.0 w more.2,
+      text ++ more.0,
+      opened (get_or bytes 0 0) ys b text b' more.0 b'' front k (subst (λ x. Opening (get_or bytes 0 0) b text x b') e o) more.1 refl,
+      Appends-trans h₀ h₁ h₂ text more.0 w more.2,
     )
-
-pub on_ok : {T E : Type 0} (r : Result T E) {P Q : Type 0} → (P → Q) → OnOk r P → OnOk r Q
-on_ok (Ok x) f p = f p
-on_ok (Err e) f p = p

@@ -2,14 +2,12 @@
 -- for, and the line of each call with the block behind it.
 -- Assumes nothing.
 use Rattle.std.specs.Prelude.{◌≡◌, Bool, true, false, ◌&&◌, cond, List, [], ◌∷◌, ℕ, ◌+◌, ◌*◌, ◌≤◌, ◌<◌, eqb, leb, ltb, length, get_or, take}
-use Rattle.replies.specs.declared.Reply.{Reply}
-use Rattle.replies.specs.Replies.{refuses}
+use Rattle.replies.specs.Replies.{refuses, Reply}
 use Rattle.house.specs.Meets.{house_table}
 use Rattle.opening.specs.Open.{open_reply, open_block}
 use Rattle.taking.specs.Take.{Take}
 use Rattle.asking.specs.Ask.{Ask}
-use Rattle.lines.specs.declared.Line.{Line}
-use Rattle.lines.specs.Text.{line, line_of, holding}
+use Rattle.lines.specs.Text.{line, line_of}
 use Rattle.rigcheck.specs.declared.Step.{Step}
 use Rattle.rigcheck.specs.declared.Step.TheVariants.{End, Cut, Long, Packet}
 
@@ -33,8 +31,8 @@ abbrev pub house_kinds : ℕ
 house_kinds = 33
 
 -- `open`, with the house kinds: its line, whether it ends the run, and the block afterwards
-pub record Opening (v : ℕ) (b : List ℕ) (l : Line) (ends : Bool) (after : List ℕ) : Type 0 where
-  pub told : l ≡ holding (line_of open_word (open_reply house_kinds v house_table b))
+pub record Opening (v : ℕ) (b text : List ℕ) (ends : Bool) (after : List ℕ) : Type 0 where
+  pub told : text ≡ line_of open_word (open_reply house_kinds v house_table b)
   pub stops : ends ≡ refuses (open_reply house_kinds v house_table b)
   pub block : after ≡ open_block house_kinds v house_table b
 
@@ -63,14 +61,14 @@ abbrev pub is_facts : List ℕ → Bool
 is_facts p = ltb 3 (length p) && eqb (get_or p 3 0) 1
 
 -- the line of a whole packet is that of its call's reply, and the block afterwards is the call's
-pub data Answered (b p : List ℕ) (l : Line) (after : List ℕ) : Type 0 where
-  facts : (reply : Reply) → is_facts p ≡ true → Take b p reply after → l ≡ holding (line_of facts_word reply) → Answered b p l after
-  rule : (reply : Reply) → is_facts p ≡ false → Ask b p reply → after ≡ b → l ≡ holding (line_of rule_word reply) → Answered b p l after
+pub data Answered (b p text after : List ℕ) : Type 0 where
+  facts : (reply : Reply) → is_facts p ≡ true → Take b p reply after → text ≡ line_of facts_word reply → Answered b p text after
+  rule : (reply : Reply) → is_facts p ≡ false → Ask b p reply → after ≡ b → text ≡ line_of rule_word reply → Answered b p text after
 
 -- one turn of the run: its line and the block afterwards, where p has the bytes read, `rest` of them behind L
-pub data Turn (b p : List ℕ) (step : Step) (rest : ℕ) (l : Line) (after : List ℕ) : Type 0 where
-  no_packet : step ≡ End → l ≡ holding [] → after ≡ b → Turn b p step rest l after
-  cut_in_length : step ≡ Cut → l ≡ holding (line cut_word 5 0 0) → after ≡ b → Turn b p step rest l after
-  too_long : step ≡ Long → l ≡ holding (line long_word 5 0 0) → after ≡ b → Turn b p step rest l after
-  cut_behind : (size : ℕ) → step ≡ Packet size → rest < size → l ≡ holding (line cut_word 5 0 0) → after ≡ b → Turn b p step rest l after
-  whole : (size : ℕ) → step ≡ Packet size → size ≤ rest → Answered b (take (2 + size) p) l after → Turn b p step rest l after
+pub data Turn (b p : List ℕ) (step : Step) (rest : ℕ) (text after : List ℕ) : Type 0 where
+  no_packet : step ≡ End → text ≡ [] → after ≡ b → Turn b p step rest text after
+  cut_in_length : step ≡ Cut → text ≡ line cut_word 5 0 0 → after ≡ b → Turn b p step rest text after
+  too_long : step ≡ Long → text ≡ line long_word 5 0 0 → after ≡ b → Turn b p step rest text after
+  cut_behind : (size : ℕ) → step ≡ Packet size → rest < size → text ≡ line cut_word 5 0 0 → after ≡ b → Turn b p step rest text after
+  whole : (size : ℕ) → step ≡ Packet size → size ≤ rest → Answered b (take (2 + size) p) text after → Turn b p step rest text after

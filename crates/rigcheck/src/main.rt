@@ -2,17 +2,17 @@
 // The kinds are the house kinds.
 #![tactic(auto)]
 
-ghost use Rattle.std.specs.Prelude.{◌≡◌, ℕ, ◌+◌, ◌≤◌, ◌<◌, ◌^◌, List, length, take, drop, IfOk, OnOk, OnErr, IfSome};
+ghost use Rattle.std.specs.Prelude.{◌≡◌, true, false, ℕ, ◌+◌, ◌≤◌, ◌<◌, ◌^◌, List, length, take, drop, IfOk, OnOk, OnErr, IfSome, MatchResult};
 ghost use Rattle.std.specs.Io.KnownBytes.{Appends};
 ghost use Rattle.blocks.specs.Layout.{block_size};
-ghost use Rattle.lines.specs.Text.{line, longest_word, room, holding};
+ghost use Rattle.lines.specs.Text.{line, text_of};
 ghost use Rattle.rigcheck.specs.declared.Step.TheVariants.{Packet};
 ghost use Rattle.rigcheck.specs.Lines.{is_facts, Answered, longest, step_of, goes_on, Turn, Opening};
-ghost use Rattle.rigcheck.specs.Input.{text_of, ReadUpTo, TurnOn, Packets, Run};
+ghost use Rattle.rigcheck.specs.Input.{said, ReadUpTo, TurnOn, Packets, Run};
 
 use blocks::BLOCK;
 use lines::Line;
-use replies::{Cause, Reply};
+use replies::{Cause, Refusal, Reply};
 use std::io;
 use std::io::{Read, Write};
 
@@ -24,7 +24,8 @@ const LONGEST_PACKET: usize = 4374;
 
 const HOUSE_KINDS: u64 = 33;
 
-// How a run goes on from the two bytes of L.
+// How a run goes on from the two bytes of L. An enum of its own: of the three kinds without a size each has a line of its own, so that no Option
+// of a size tells them apart.
 #[derive(Clone, Copy)]
 enum Step {
     // No packet is left.
@@ -37,15 +38,9 @@ enum Step {
     Packet(usize),
 }
 
-fn wide(x: u8) -> usize
-    ensures { (result ≡ x) × (result < 256) }
-{
-    x as usize
-}
-
 // L is judged as soon as its two bytes are read.
-fn next_step(got: usize, packet: [u8; LONGEST_PACKET]) -> Step
-    ensures { result ≡ step_of got packet }
+fn next_step(got: usize, packet: &[u8; LONGEST_PACKET]) -> Step
+    ensures { result ≡ step_of got packet.now }
 {
     if got == 0 {
         return Step::End;
@@ -53,7 +48,7 @@ fn next_step(got: usize, packet: [u8; LONGEST_PACKET]) -> Step
     if got < 2 {
         return Step::Cut;
     }
-    let size = 256 * wide(packet[0]) + wide(packet[1]);
+    let size = usize::from(u16::from_be_bytes([packet[0], packet[1]]));
     if LONGEST < size {
         return Step::Long;
     }
@@ -65,9 +60,7 @@ fn goes_on(step: Step, rest: usize) -> bool
     ensures { result ≡ goes_on step rest }
 {
     match step {
-        Step::End => false,
-        Step::Cut => false,
-        Step::Long => false,
+        Step::End | Step::Cut | Step::Long => false,
         Step::Packet(size) => size <= rest,
     }
 }
@@ -76,15 +69,12 @@ fn goes_on(step: Step, rest: usize) -> bool
 fn is_facts(packet: &[u8]) -> bool
     ensures { result ≡ is_facts packet.now }
 {
-    if packet.len() <= 3 {
-        return false;
-    }
-    packet[3] == 1
+    3 < packet.len() && packet[3] == 1
 }
 
 // Takes a packet of facts, asks any other. Its line.
-fn answered(block: &mut [u8], packet: &[u8]) -> Line
-    ensures { Answered block.old packet.now result block.new }
+fn answered(block: &mut [u8], packet: &[u8]) -> Line<'static>
+    ensures { Answered block.old packet.now (text_of result) block.new }
 {
     if is_facts(packet) {
         let reply = taking::take(block, packet);
@@ -95,17 +85,21 @@ fn answered(block: &mut [u8], packet: &[u8]) -> Line
 }
 
 // The line of a packet that cannot be read: its length is refused.
-fn refused(word: &[u8]) -> Line
-    requires { length word.now ≤ longest_word }
-    ensures { result ≡ holding (line word.now 5 0 0) }
+fn refused(word: &[u8]) -> Line<'_>
+    ensures { text_of result ≡ line word.now 5 0 0 }
 {
-    Line::of_reply(word, Reply::Refused(Cause::BadLength, 0))
+    Line::of_reply(word, Err(Refusal(Cause::BadLength, 0)))
 }
 
 // Answers a packet of which `rest` bytes could be read behind L, where that is all of them. Its line.
-fn told_packet(block: &mut [u8], packet: [u8; LONGEST_PACKET], size: usize, rest: usize) -> Line
+fn told_packet(
+    block: &mut [u8],
+    packet: &[u8; LONGEST_PACKET],
+    size: usize,
+    rest: usize,
+) -> Line<'static>
     requires { size ≤ longest }
-    ensures { Turn block.old packet (Packet size) rest result block.new }
+    ensures { Turn block.old packet.now (Packet size) rest (text_of result) block.new }
 {
     if rest < size {
         return refused(b"cut");
@@ -114,50 +108,48 @@ fn told_packet(block: &mut [u8], packet: [u8; LONGEST_PACKET], size: usize, rest
     answered(block, &packet[..end])
 }
 
-// One turn of the run, once its bytes are read. Its line.
-fn told(block: &mut [u8], packet: [u8; LONGEST_PACKET], step: Step, rest: usize) -> Line
+// One turn of the run, once its bytes are read. Its line, if it has one.
+fn told(
+    block: &mut [u8],
+    packet: &[u8; LONGEST_PACKET],
+    step: Step,
+    rest: usize,
+) -> Option<Line<'static>>
     requires { (size : ℕ) → step ≡ Packet size → size ≤ longest }
-    ensures { Turn block.old packet step rest result block.new }
+    ensures { Turn block.old packet.now step rest (said result) block.new }
 {
     match step {
-        Step::End => Line::empty(),
-        Step::Cut => refused(b"cut"),
-        Step::Long => refused(b"long"),
-        Step::Packet(size) => told_packet(block, packet, size, rest),
+        Step::End => None,
+        Step::Cut => Some(refused(b"cut")),
+        Step::Long => Some(refused(b"long")),
+        Step::Packet(size) => Some(told_packet(block, packet, size, rest)),
     }
 }
 
-// The line of `open`, and whether it ends the run.
-#[derive(Clone, Copy)]
-struct Opened {
-    line: Line,
-    refused: bool,
-}
-
-// Opens a session of V joints with the house kinds. A block that has its size leaves V alone to be refused.
-fn open(joints: u8, block: &mut [u8]) -> Opened
+// Opens a session of V joints with the house kinds. A block that has its size leaves V alone to be refused. The line of `open`; that of a
+// refusal, which ends the run, is the error.
+fn open(joints: u8, block: &mut [u8]) -> Result<Line<'static>, Line<'static>>
     requires { length block.old ≡ block_size }
-    ensures { Opening joints block.old result.line result.refused block.new }
+    ensures { MatchResult result (λ line. Opening joints block.old (text_of line) false block.new)
+        (λ line. Opening joints block.old (text_of line) true block.new) }
 {
-    let reply = opening::open(HOUSE_KINDS, joints as u64, &house::table(), block);
+    let reply = opening::open(HOUSE_KINDS, u64::from(joints), &house::table(), block);
     let line = Line::of_reply(b"open", reply);
-    Opened {
-        line,
-        refused: replies::is_refusal(reply),
+    match reply {
+        Ok(_) => Ok(line),
+        Err(_) => Err(line),
     }
 }
 
-// Writes the text of a line.
-fn print<W: Write>(out: &mut W, line: Line) -> io::Result<()>
-    requires { line.size ≤ room }
-    ensures { OnOk result (Appends (W.contents out.old) (W.contents out.new) (text_of line)) }
+// Writes the text of a line; the program writes nowhere else.
+fn print<W: Write>(out: &mut W, line: Line<'_>) -> io::Result<()>
+    ensures { OnOk result (Appends (W.contents out.old) (W.contents out.new) (text_of line.entry)) }
 {
-    let bytes = line.bytes;
-    let size = line.size;
-    out.write_all(&bytes[..size])
+    line.write(out)
 }
 
-// Reads until `bytes` is full or the input ends. The bytes read; each turn reads one at least.
+// Reads until `bytes` is full or the input ends. The bytes read; each turn reads one at least. `read_exact` does not say how many it could
+// read of an input that ends before.
 fn read_full<R: Read>(input: &mut R, bytes: &mut [u8]) -> io::Result<usize>
     ensures bytes { IfOk result (λ got. ReadUpTo (length bytes.new) got (R.remaining input.old) (R.remaining input.new) bytes.new) }
     ensures err { OnErr result (0 < length bytes.old) }
@@ -197,9 +189,7 @@ fn read_rest<R: Read>(input: &mut R, packet: &mut [u8], step: Step) -> io::Resul
     ensures err { OnErr result ((size : ℕ) × ((step ≡ Packet size) × (0 < size))) }
 {
     match step {
-        Step::End => Ok(0),
-        Step::Cut => Ok(0),
-        Step::Long => Ok(0),
+        Step::End | Step::Cut | Step::Long => Ok(0),
         Step::Packet(size) => read_to(input, packet, 2, size),
     }
 }
@@ -218,9 +208,11 @@ fn next_packet<R: Read, W: Write>(input: &mut R, out: &mut W, block: &mut [u8]) 
 {
     let mut packet = no_packet();
     let got = read_to(input, &mut packet, 0, 2)?;
-    let step = next_step(got, packet);
+    let step = next_step(got, &packet);
     let rest = read_rest(input, &mut packet, step)?;
-    print(out, told(block, packet, step, rest))?;
+    if let Some(line) = told(block, &packet, step, rest) {
+        print(out, line)?;
+    }
     Ok(goes_on(step, rest))
 }
 
@@ -254,13 +246,13 @@ fn run<R: Read, W: Write>(input: &mut R, out: &mut W) -> io::Result<()>
         return Ok(());
     }
     let mut block = no_block();
-    let opened = open(joints[0], &mut block);
-    let refused = opened.refused;
-    print(out, opened.line)?;
-    if refused {
-        return Ok(());
+    match open(joints[0], &mut block) {
+        Ok(line) => {
+            print(out, line)?;
+            all_packets(input, out, &mut block)
+        }
+        Err(line) => print(out, line),
     }
-    all_packets(input, out, &mut block)
 }
 
 fn main(rt: HostRuntime) -> io::Result<()> {

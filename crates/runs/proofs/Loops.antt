@@ -4,16 +4,15 @@
 use mathlib.Core.Path.{◌≡◌, refl, sym, ap, ◌∙◌}
 use mathlib.Core.Logic.{by_cases}
 use mathlib.Core.Bool.{Bool, true, false, ◌&&◌}
-use mathlib.Core.List.{List}
-use Prim.Native.Nat.{ℕ, suc, ◌+◌, ◌≤◌, ◌<◌}
+use mathlib.Core.List.{List, [], ◌∷◌, ◌++◌}
+use Prim.Native.Nat.{ℕ, ◌+◌, ◌≤◌, ◌<◌}
 use native.Mathlib.Omega.{arith}
 use native.Mathlib.Decide.{ℕ_discrete}
 use native.Mathlib.Nat.{not-suc-le-zero}
-use native.Mathlib.Numerals.{add-one}
 use lib.Bits.{bit_or, bit_xor, or_add_and, xor_add_and, xor_self, and_le_l, and_le_r}
 use lib.Dec.{eqb}
-use lib.ListN.{length, get_or, drop, set, replicate, length-set, get_or-replicate, drop_of_length-le}
-use lib.Seq.{get_or-set_same, get_or-set_other, drop-cons, ext_get_or}
+use lib.ListN.{length, get_or, set, replicate, length-set, get_or-replicate}
+use lib.Seq.{get_or-set_same, get_or-set_other, ext_get_or}
 use borrow.Author.Tests.{eq-eqb, ne_eqb, eqb-true, eqb-false}
 use Rattle.runs.specs.Runs.{all_zero}
 
@@ -65,13 +64,6 @@ both_zero x y =
     (λ d. ne_eqb _ _ (λ e. d (or_none x y e).1) ∙ rw (eq-eqb x 0 p, ne_eqb y 0 d)))
     (λ d. ne_eqb _ _ (λ e. d (or_none x y e).0) ∙ rw (ne_eqb x 0 d))
 
--- a loop at i that has gathered the bits of the bytes below i in `any`: what is asked of the run is asked of these and of the bytes from i on
-pub record Gathering (xs : List ℕ) (i any : ℕ) : Type 0 where
-  pub is : all_zero xs ≡ (eqb any 0 && all_zero (drop i xs))
-
-pub none_gathered : (xs : List ℕ) → Gathering xs 0 0
-none_gathered xs = record { is = refl }
-
 and_assoc : (a b c : Bool) → (a && (b && c)) ≡ ((a && b) && c)
 and_assoc true b c = refl
 and_assoc false b c = refl
@@ -80,20 +72,14 @@ and_true : (a : Bool) → (a && true) ≡ a
 and_true true = refl
 and_true false = refl
 
-module _ {xs : List ℕ} {i any : ℕ} (l : Gathering xs i any) where
-  pub gathered : i < length xs → Gathering xs (i + 1) (bit_or any (get_or xs i 0))
-  unfolding all_zero
-  gathered h =
-      let x = get_or xs i 0 in
-      record {
-        is =
-            l.is
-            ∙ rw (drop-cons xs i 0 h, both_zero any x, add-one i) (and_assoc (eqb any 0) (eqb x 0) (all_zero (drop (suc i) xs)));
-      }
+zero_behind : (xs : List ℕ) (x : ℕ) → all_zero (xs ++ (x ∷ [])) ≡ (all_zero xs && eqb x 0)
+unfolding all_zero
+zero_behind [] x = and_true (eqb x 0)
+zero_behind (y ∷ ys) x = ap (λ (b : Bool). eqb y 0 && b) (zero_behind ys x) ∙ and_assoc (eqb y 0) (all_zero ys) (eqb x 0)
 
-  pub all_gathered : length xs ≤ i → eqb any 0 ≡ all_zero xs
-  unfolding all_zero
-  all_gathered h = sym (l.is ∙ rw (drop_of_length-le xs h) (and_true (eqb any 0)))
+-- the bits of the bytes of a run, gathered in `any`, with those of the byte behind it
+pub gathered : (xs : List ℕ) (any x : ℕ) → eqb any 0 ≡ all_zero xs → eqb (bit_or any x) 0 ≡ all_zero (xs ++ (x ∷ []))
+gathered xs any x e = both_zero any x ∙ ap (λ (b : Bool). b && eqb x 0) e ∙ sym (zero_behind xs x)
 
 -- a loop at i that has gathered in `any` the bits in which the bytes of two runs differ below i
 pub record Comparing (xs ys : List ℕ) (i any : ℕ) : Type 0 where

@@ -1,23 +1,27 @@
 -- The look at all facts at once: where the bits gathered have no highest bit of a byte, no fact has one, so that each of its bytes is below
 -- the limit that its tag gives it, and the fact fits.
 -- Assumes nothing.
-use mathlib.Core.Path.{◌≡◌, refl, sym, ap₂, ◌∙◌}
+use mathlib.Core.Path.{◌≡◌, refl, sym, ap, ap₂, ◌∙◌}
 use mathlib.Core.Logic.{by_cases}
 use mathlib.Core.Bool.{true, false, ◌&&◌, cond}
-use mathlib.Core.List.{List}
-use Prim.Native.Nat.{ℕ, ◌+◌, ◌-◌, ◌*◌, ◌/◌, ◌%◌, ◌^◌, ◌≤◌, ◌<◌, min, max}
+use mathlib.Core.List.{List, []}
+use Prim.Native.Nat.{ℕ, zero, suc, ◌+◌, ◌-◌, ◌*◌, ◌/◌, ◌%◌, ◌^◌, ◌≤◌, ◌<◌, min, max}
 use native.Mathlib.Omega.{arith}
 use native.Mathlib.Decide.{ℕ_discrete, dec_lt}
+use native.Mathlib.Nat.{not-suc-le-zero}
 use lib.Arith.{bin_ind}
 use lib.Bits.{bit_and, bit_or, and_step, or_step, and_shr, or_shr, and_block, and_self, and_le_l, or_add_and, or_disjoint, or_zero_r}
 use lib.Dec.{eqb, ltb}
 use borrow.Author.Count.{below_none, below_more}
 use borrow.Author.Tests.{eq-eqb, ne_eqb, lt-ltb}
-use Rattle.replies.specs.declared.Reply.TheVariants.{Done}
+use Rattle.std.specs.Prelude.{Ok, length, get_or, take, drop}
+use Rattle.std.specs.Simd.{first_chunks}
+use Rattle.std.proofs.lemmas.List.{take_all, get_or-take, get_or-drop, drop-drop, length-drop}
 use Rattle.runs.proofs.Loops.{or_none}
 use Rattle.runs.proofs.Bits.{and_odd, or_odd}
 use Rattle.packets.specs.Packet.{byte, joints, fact_at, fact_count}
 use Rattle.screening.specs.Screening.{fact_fits, first_bad_fact}
+use Rattle.screening.specs.Whole.{Whole}
 use Rattle.screening.specs.Words.{four_bytes, high_bits, limits_for, gathered, Word, Limits, Clear}
 use Rattle.screening.proofs.Converse.{both_true, all_fit_from}
 
@@ -162,7 +166,7 @@ module _ (n : ℕ) (p : List ℕ) (few_kinds : n ≤ 128) (few_joints : joints p
 
   pub all_clear :
       {j k s l : ℕ} → j ≡ joints p → k ≡ four_bytes 128 j n 1 → s ≡ four_bytes 128 j j 1 → l ≡ four_bytes 128 j 16 j →
-      ((i : ℕ) → i < fact_count p → Clear k s l p (fact_at p i)) → first_bad_fact n p ≡ Done 0
+      ((i : ℕ) → i < fact_count p → Clear k s l p (fact_at p i)) → first_bad_fact n p ≡ Ok 0
   all_clear e f g h c =
       all_fit_from (fact_fits n p) (fact_at p) 0 (fact_count p)
       (λ i _ m. clear_fits (fact_at p i) (rw (f, g, h, e) at (c i (omega arith))))
@@ -185,3 +189,38 @@ module _ {kind same link : ℕ} {p : List ℕ} where
             let here : Clear kind same link p at = record { word = word; bytes = w; none = rw g at two.1 } in
             below_more (λ k. Clear kind same link p (fact_at p k)) i (l.clear two.0) (rw e at here);
       }
+
+-- the facts, four bytes each: the i-th begins where the packet's i-th does
+chunk_at : (k i : ℕ) (xs : List ℕ) → i < k → get_or (first_chunks 4 k xs) i [] ≡ take 4 (drop (4 * i) xs)
+chunk_at zero i xs h = absurd (not-suc-le-zero h)
+chunk_at (suc k) zero xs h = refl
+chunk_at (suc k) (suc i) xs h =
+    chunk_at k i (drop 4 xs) (omega arith)
+    ∙ ap (take 4) (drop-drop (4 * i) 4 xs ∙ ap (λ (j : ℕ). drop j xs) (omega arith))
+
+-- what is left of a list from a place on
+pub left_from : (p : List ℕ) (from : ℕ) → take (length p - from) (drop from p) ≡ drop from p
+left_from p from = take_all (length p - from) (drop from p) (omega (arith, length-drop from p))
+
+pub facts_at :
+    {p : List ℕ} {from : ℕ} → Whole p → from ≡ fact_at p 0 → (i : ℕ) → i < fact_count p →
+    get_or (first_chunks 4 (length (drop from p) / 4) (drop from p)) i [] ≡ take 4 (drop (fact_at p i) p)
+facts_at {p} {from} w e i h =
+    chunk_at (length (drop from p) / 4) i (drop from p) (omega (arith, length-drop from p, w.ends, e))
+    ∙ ap (take 4) (drop-drop (4 * i) from p ∙ ap (λ (j : ℕ). drop j p) (omega (arith, e)))
+
+pub word_moved : {f p : List ℕ} {at word : ℕ} → f ≡ take 4 (drop at p) → Word f 0 word → Word p at word
+word_moved {f} {p} {at} {word} e w =
+    record {
+      is = rw (first, moved 1 (omega arith), moved 2 (omega arith), moved 3 (omega arith)) at w.is;
+      first = rw first at w.first;
+      second = rw (moved 1 (omega arith)) at w.second;
+      third = rw (moved 2 (omega arith)) at w.third;
+      fourth = rw (moved 3 (omega arith)) at w.fourth;
+    }
+  where
+    moved : (j : ℕ) → j < 4 → byte f j ≡ byte p (at + j)
+    moved j h = ap (λ (l : List ℕ). byte l j) e ∙ get_or-take 4 (drop at p) j 0 h ∙ get_or-drop at p j 0
+
+    first : byte f 0 ≡ byte p at
+    first = moved 0 (omega arith) ∙ ap (byte p) (omega arith)

@@ -6,7 +6,7 @@ use mathlib.Core.List.{List}
 use Prim.Native.Nat.{ℕ, zero, suc, ◌+◌, ◌≤◌, ◌<◌}
 use native.Mathlib.Omega.{arith}
 use borrow.Author.Tests.{eq-eqb, lt-ltb}
-use Rattle.replies.specs.declared.Reply.TheVariants.{Done}
+use Rattle.std.specs.Prelude.{Ok}
 use Rattle.replies.specs.Replies.{refuses}
 use Rattle.replies.proofs.Laws.{first_next, first_none, test_next}
 use Rattle.runs.specs.Runs.{each, within}
@@ -24,8 +24,8 @@ both_true a b p q = cc
 module _ (w : Wanted) (n v : ℕ) (p : List ℕ) where
   pub packet_fits :
       length_fits p ≡ true → byte p 2 ≡ 1 → byte p 3 ≡ w.purpose → within w.ties.from w.ties.to (ties p) ≡ true →
-      within w.joints.from w.joints.to (joints p) ≡ true → count_fits p ≡ true → first_bad_tie v p ≡ Done 0 → first_bad_fact n p ≡ Done 0 →
-      packet_reply w n v p ≡ Done 0
+      within w.joints.from w.joints.to (joints p) ≡ true → count_fits p ≡ true → first_bad_tie v p ≡ Ok 0 → first_bad_fact n p ≡ Ok 0 →
+      packet_reply w n v p ≡ Ok 0
   unfolding packet_reply
   packet_fits length version_1 purposed tied jointed counted no_tie no_fact =
       test_next _ _ _ _ _ length
@@ -40,17 +40,17 @@ module _ (w : Wanted) (n v : ℕ) (p : List ℕ) where
 
 -- the first part fits, and those behind it
 pub fits_then :
-    (fits : ℕ → Bool) (at : ℕ → ℕ) (i count : ℕ) → fits (at i) ≡ true → first_unfit fits at (suc i) count ≡ Done 0 →
-    first_unfit fits at i (suc count) ≡ Done 0
+    (fits : ℕ → Bool) (at : ℕ → ℕ) (i count : ℕ) → fits (at i) ≡ true → first_unfit fits at (suc i) count ≡ Ok 0 →
+    first_unfit fits at i (suc count) ≡ Ok 0
 unfolding first_unfit each
 fits_then fits at i count e rest = test_next _ _ _ _ _ e ∙ rest
 
 -- all of count parts fit, from the i-th on
 pub all_fit_from :
     (fits : ℕ → Bool) (at : ℕ → ℕ) (i count : ℕ) → ((k : ℕ) → i ≤ k → k < i + count → fits (at k) ≡ true) →
-    first_unfit fits at i count ≡ Done 0
+    first_unfit fits at i count ≡ Ok 0
 unfolding first_unfit each
-all_fit_from fits at i zero h = first_none (Done 0)
+all_fit_from fits at i zero h = first_none (Ok 0)
 all_fit_from fits at i (suc count) h =
     fits_then fits at i count (h i (omega arith) (omega arith)) (all_fit_from fits at (suc i) count (λ k a b. h k (omega arith) (omega arith)))
 

@@ -7,10 +7,9 @@ use Prim.Native.Nat.{ℕ, ◌+◌, ◌-◌, ◌*◌, ◌≤◌, ◌<◌}
 use native.Mathlib.Omega.{arith}
 use lib.ListN.{length}
 use borrow.Author.Tests.{leb-true, eqb-true}
+use Rattle.std.specs.Prelude.{Ok}
 use Rattle.replies.specs.declared.Cause.TheVariants.{BadPart}
-use Rattle.replies.specs.declared.Reply.{Reply}
-use Rattle.replies.specs.declared.Reply.TheVariants.{Done, Refused}
-use Rattle.replies.specs.Replies.{unless, first_refusal}
+use Rattle.replies.specs.Replies.{unless, first_refusal, Reply, refusal}
 use Rattle.replies.proofs.Laws.{first_none, test_here, test_next}
 use Rattle.runs.specs.Runs.{each}
 use Rattle.runs.proofs.Each.{each_step, each_end}
@@ -55,17 +54,17 @@ module _ {x : Reply} {fits : ℕ → Bool} {at : ℕ → ℕ} {i n : ℕ} (l : L
   abbrev parts : ℕ → Reply
   parts k = unless (fits (at k)) BadPart (at k)
 
-  turn : i < n → x ≡ first_refusal (parts i ∷ each parts (i + 1) (n - (i + 1))) (Done 0)
+  turn : i < n → x ≡ first_refusal (parts i ∷ each parts (i + 1) (n - (i + 1))) (Ok 0)
   unfolding first_unfit
-  turn h = l.is ∙ ap (λ (rs : List Reply). first_refusal rs (Done 0)) (each_step parts h)
+  turn h = l.is ∙ ap (λ (rs : List Reply). first_refusal rs (Ok 0)) (each_step parts h)
 
   pub passes : i < n → fits (at i) ≡ true → Left x fits at (i + 1) n
   unfolding first_unfit
   passes h e = record { is = turn h ∙ test_next _ _ _ _ _ e }
 
-  pub stops : i < n → fits (at i) ≡ false → x ≡ Refused BadPart (at i)
+  pub stops : i < n → fits (at i) ≡ false → x ≡ refusal BadPart (at i)
   stops h e = turn h ∙ test_here _ _ _ _ _ e
 
-  pub ends : n ≤ i → x ≡ Done 0
+  pub ends : n ≤ i → x ≡ Ok 0
   unfolding first_unfit
-  ends h = l.is ∙ ap (λ (rs : List Reply). first_refusal rs (Done 0)) (each_end parts h) ∙ first_none (Done 0)
+  ends h = l.is ∙ ap (λ (rs : List Reply). first_refusal rs (Ok 0)) (each_end parts h) ∙ first_none (Ok 0)

@@ -10,8 +10,8 @@ use native.Mathlib.Nat.{not-suc-le-zero, le_of_suc-le-suc, add-zero}
 use lib.Dec.{eqb, ltb}
 use lib.ListN.{length}
 use borrow.Author.Tests.{ltb-true, leb-true, eqb-true}
+use Rattle.std.specs.Prelude.{Ok}
 use Rattle.replies.specs.declared.Cause.TheVariants.{BadPart}
-use Rattle.replies.specs.declared.Reply.TheVariants.{Done}
 use Rattle.replies.specs.Replies.{refuses, third}
 use Rattle.replies.proofs.Laws.{done, first_none, first_passed, first_third, test_passed}
 use Rattle.runs.specs.Runs.{each, within}
@@ -46,7 +46,7 @@ unfolding first_unfit each
 fit_from fits at zero i e k h = absurd (not-suc-le-zero h)
 fit_from fits at (suc count) i e zero h = ap (λ (j : ℕ). fits (at j)) (add-zero i) ∙ (test_passed _ _ _ _ _ e).0
 fit_from fits at (suc count) i e (suc k) h =
-    ap (λ (j : ℕ). fits (at j)) (omega arith) ∙ fit_from fits at count (suc i) (test_passed (fits (at i)) BadPart (at i) _ (Done 0) e).1 k (le_of_suc-le-suc h)
+    ap (λ (j : ℕ). fits (at j)) (omega arith) ∙ fit_from fits at count (suc i) (test_passed (fits (at i)) BadPart (at i) _ (Ok 0) e).1 k (le_of_suc-le-suc h)
 
 fit :
     (fits : ℕ → Bool) (at : ℕ → ℕ) (count : ℕ) → refuses (first_unfit fits at 0 count) ≡ false →
@@ -115,5 +115,5 @@ module _ (w : Wanted) (n v : ℕ) (p : List ℕ) where
   packet_third = first_third _ _ (first_third _ _ refl)
 
   -- done or a refusal
-  pub packet_done : refuses (packet_reply w n v p) ≡ false → packet_reply w n v p ≡ Done 0
-  packet_done e = done _ e ∙ ap Done packet_third
+  pub packet_done : refuses (packet_reply w n v p) ≡ false → packet_reply w n v p ≡ Ok 0
+  packet_done e = done _ e ∙ ap Ok packet_third

@@ -7,7 +7,7 @@ use native.Mathlib.Omega.{arith}
 use lib.Dec.{leb}
 use lib.ListN.{length}
 use borrow.Author.Tests.{eq-eqb, le-leb}
-use Rattle.replies.specs.declared.Reply.TheVariants.{Done}
+use Rattle.std.specs.Prelude.{Ok}
 use Rattle.replies.proofs.Laws.{first_none}
 use Rattle.runs.specs.Runs.{each}
 use Rattle.meaning.specs.Picture.{Fact}
@@ -19,9 +19,9 @@ use Rattle.screening.proofs.Converse.{both_true, packet_fits, fits_then, fact_fi
 
 all_fit :
     (n : ℕ) (p : List ℕ) (i : ℕ) (fs : List (Fact ℕ)) → AllStand p i fs → AllInRange n (joints p) fs →
-    first_unfit (fact_fits n p) (fact_at p) i (length fs) ≡ Done 0
+    first_unfit (fact_fits n p) (fact_at p) i (length fs) ≡ Ok 0
 unfolding first_unfit each
-all_fit n p i [] s r = first_none (Done 0)
+all_fit n p i [] s r = first_none (Ok 0)
 all_fit n p i (f ∷ fs) s r =
     fits_then (fact_fits n p) (fact_at p) i (length fs) (fact_fits_lem n p (fact_at p i) f s.0 r.0) (all_fit n p (suc i) fs s.1 r.1)
 
@@ -29,7 +29,7 @@ module _ (n v : ℕ) (fs : List (Fact ℕ)) (few : length fs ≤ 1088) (r : AllI
   abbrev packet : List ℕ
   packet = written v fs
 
-  pub written_well : packet_reply (facts_wanted v) n v packet ≡ Done 0
+  pub written_well : packet_reply (facts_wanted v) n v packet ≡ Ok 0
   unfolding first_unfit each
   written_well =
       let size = size_is v fs in
@@ -42,5 +42,5 @@ module _ (n v : ℕ) (fs : List (Fact ℕ)) (few : length fs ≤ 1088) (r : AllI
       (both_true _ _
       (eq-eqb (L packet) (4 + 2 * ties packet + 4 * fact_count packet) (omega (arith, l, count)))
       (le-leb (fact_count packet) 1088 (omega (arith, count))))
-      (first_none (Done 0))
+      (first_none (Ok 0))
       (ap (first_unfit (fact_fits n packet) (fact_at packet) 0) count ∙ all_fit n packet 0 fs (written_stand v fs) r)

@@ -1,11 +1,9 @@
 -- Replies 5 to 9: what can be wrong with the bytes of a packet, and the reply to the first thing that is. (A packet is well formed when 10 does
 -- not fit it either: crates/reach.)
 -- Assumes nothing.
-use Rattle.std.specs.Prelude.{Bool, false, ◌&&◌, cond, List, [], ◌∷◌, ℕ, ◌+◌, ◌*◌, eqb, leb, ltb, length}
+use Rattle.std.specs.Prelude.{Bool, false, ◌&&◌, cond, List, [], ◌∷◌, ℕ, ◌+◌, ◌*◌, eqb, leb, ltb, length, Ok}
 use Rattle.replies.specs.declared.Cause.TheVariants.{BadLength, BadVersion, BadHeader, BadCount, BadPart}
-use Rattle.replies.specs.declared.Reply.{Reply}
-use Rattle.replies.specs.declared.Reply.TheVariants.{Done}
-use Rattle.replies.specs.Replies.{unless, first_refusal}
+use Rattle.replies.specs.Replies.{unless, first_refusal, Reply}
 use Rattle.runs.specs.Runs.{each, within}
 use Rattle.packets.specs.Packet.{byte, L, ties, joints, tie_at, fact_at, fact_count}
 use Rattle.screening.specs.declared.Wanted.{Wanted}
@@ -40,7 +38,7 @@ fact_fits n p at =
 
 -- the first of count parts, from the i-th on, that does not fit, by its first byte
 unfoldable pub first_unfit : (ℕ → Bool) → (ℕ → ℕ) → ℕ → ℕ → Reply
-first_unfit fits at i count = first_refusal (each (λ k. unless (fits (at k)) BadPart (at k)) i count) (Done 0)
+first_unfit fits at i count = first_refusal (each (λ k. unless (fits (at k)) BadPart (at k)) i count) (Ok 0)
 
 -- the first tie that does not fit, where there are v rig joints
 abbrev pub first_bad_tie : ℕ → List ℕ → Reply

@@ -1,19 +1,31 @@
 // Replies 5 to 9, to any bytes.
 #![tactic(auto)]
 
-ghost use Rattle.std.specs.Prelude.{◌≡◌, ◌&&◌, ◌+◌, ◌*◌, ◌≤◌, length};
-ghost use Rattle.packets.specs.Packet.{ties};
-ghost use Rattle.screening.specs.Screening.{length_fits, count_fits, facts_wanted, rule_wanted, tie_fits, fact_fits, first_bad_tie, first_bad_fact, packet_reply};
+ghost use Rattle.std.specs.Prelude.{◌≡◌, Bool, List, [], ℕ, get_or, take, drop, ◌+◌, ◌*◌, ◌^◌, ◌<◌, ◌≤◌, length};
+ghost use Rattle.runs.specs.Runs.{within};
+ghost use Rattle.packets.specs.Packet.{fact_at, fact_count};
+ghost use Rattle.screening.specs.Screening.{length_fits, count_fits, facts_wanted, rule_wanted, tie_fits, fact_fits, first_unfit, first_bad_tie, first_bad_fact, packet_reply};
 ghost use Rattle.screening.specs.Whole.{Whole};
 
-use replies::{Cause, Reply};
+use packets::Packet;
+use replies::{Cause, Refusal, Reply};
+use std::marker::Model;
 
 mod words;
 
+// From one number to another. (No RangeInclusive: it also holds whether it is used up, which `Wanted` would have to tell.)
 #[derive(Clone, Copy)]
 pub struct Range {
     pub from: usize,
     pub to: usize,
+}
+
+impl Range {
+    fn has(self, x: usize) -> bool
+        ensures { result ≡ within self.from self.to x }
+    {
+        (self.from..=self.to).contains(&x)
+    }
 }
 
 // What a call wants of a packet: its purpose, and how many ties and joints it may have.
@@ -27,109 +39,117 @@ pub struct Wanted {
 fn length_fits(packet: &[u8]) -> bool
     ensures { result ≡ length_fits packet.now }
 {
-    if packet.len() < 6 {
-        return false;
-    }
-    packet.len() == packets::stated_length(packet) + 2
+    6 <= packet.len() && packet.len() == Packet::of(packet).stated_length() + 2
 }
 
-fn count_fits(packet: &[u8]) -> bool
-    requires { 6 ≤ length packet.now }
+fn count_fits(packet: &Packet<'_>) -> bool
     ensures { result ≡ count_fits packet.now }
 {
-    let count = packets::fact_count(packet);
-    if packets::stated_length(packet) == 4 + 2 * packets::byte_at(packet, 4) + 4 * count {
-        return count <= 1088;
-    }
-    false
-}
-
-// Whether all three hold.
-fn all(a: bool, b: bool, c: bool) -> bool
-    ensures { result ≡ (a && b && c) }
-{
-    if a {
-        if b {
-            return c;
-        }
-    }
-    false
+    let count = packet.fact_count();
+    packet.stated_length() == 4 + 2 * packet.tie_count() + 4 * count && count <= 1088
 }
 
 // A tie in range: a joint of the rule, and one of v rig joints.
-fn tie_fits(packet: &[u8], at: usize, v: usize) -> bool
-    requires { (6 ≤ length packet.now) × (at + 2 ≤ length packet.now) }
+fn tie_fits(packet: &Packet<'_>, at: usize, v: usize) -> bool
+    requires { at + 2 ≤ length packet.now }
     ensures { result ≡ tie_fits v packet.now at }
 {
-    if packets::byte_at(packet, at) < packets::byte_at(packet, 5) {
-        return packets::byte_at(packet, at + 1) < v;
-    }
-    false
+    packets::byte_at(packet.bytes(), at) < packet.joint_count()
+        && packets::byte_at(packet.bytes(), at + 1) < v
 }
 
 // A fact of a known tag, its numbers in range and its unused byte 0.
-fn fact_fits(packet: &[u8], at: usize, n: usize) -> bool
-    requires { (6 ≤ length packet.now) × (at + 4 ≤ length packet.now) }
+#[tactic(auto, unfolding(crate::specs::Screening::fact_fits))]
+fn fact_fits(packet: &Packet<'_>, at: usize, n: usize) -> bool
+    requires { at + 4 ≤ length packet.now }
     ensures { result ≡ fact_fits n packet.now at }
 {
-    let tag = packets::byte_at(packet, at);
-    let a = packets::byte_at(packet, at + 1);
-    let x = packets::byte_at(packet, at + 2);
-    let y = packets::byte_at(packet, at + 3);
-    let joints = packets::byte_at(packet, 5);
-    if tag == 1 {
-        return all(a < joints, x < n, y == 0);
+    let bytes = packet.bytes();
+    let a = packets::byte_at(bytes, at + 1);
+    let x = packets::byte_at(bytes, at + 2);
+    let y = packets::byte_at(bytes, at + 3);
+    let joints = packet.joint_count();
+    match bytes[at] {
+        packets::KIND => a < joints && x < n && y == 0,
+        packets::SAME => a < joints && x < joints && y == 0,
+        packets::LINK => a < joints && x < 16 && y < joints,
+        _ => false,
     }
-    if tag == 2 {
-        return all(a < joints, x < joints, y == 0);
-    }
-    if tag == 3 {
-        return all(a < joints, x < 16, y < joints);
-    }
-    false
 }
 
-// The first tie that is none, in a packet that holds all its ties.
-fn first_bad_tie(packet: &[u8], v: usize) -> Reply
-    requires { (6 ≤ length packet.now) × (6 + 2 * ties packet.now ≤ length packet.now) }
-    ensures { result ≡ first_bad_tie v packet.now }
+// The first of count parts that does not fit, by its first byte. They stand from a byte on, one behind the other. (By number,
+// since the place is the reply.)
+fn first_unfit<F: Fn(usize) -> bool>(from: usize, size: usize, count: usize, fits: F) -> Reply
+    requires inside { (i : ℕ) → i < count → from + size * i < 2 ^ 32 }
+    requires asked { (i : ℕ) → i < count → F.pre fits (from + size * i) }
+    ensures { (right : ℕ → Bool) → ((at : ℕ) (r : Bool) → F.post fits at r → r ≡ right at) → result ≡ first_unfit right (λ i. from + size * i) 0 count }
 {
-    let count = packets::byte_at(packet, 4);
     for i in 0..count {
-        let at = 6 + 2 * i;
-        if tie_fits(packet, at, v) {
-            continue;
+        let at = from + size * i;
+        if !fits(at) {
+            return Err(Refusal(Cause::BadPart, at as u32));
         }
-        return Reply::Refused(Cause::BadPart, at as u32);
     }
-    Reply::Done(0)
+    Ok(0)
 }
 
-// The first fact that is none, looked for fact by fact, in a packet that holds all its facts.
-fn find_bad_fact(packet: &[u8], n: usize) -> Reply
-    requires { Whole packet.now }
-    ensures { result ≡ first_bad_fact n packet.now }
-{
-    let count = packets::fact_count(packet);
-    for i in 0..count {
-        let place = packets::fact_at(packet, i);
-        if fact_fits(packet, place, n) {
-            continue;
-        }
-        return Reply::Refused(Cause::BadPart, place as u32);
-    }
-    Reply::Done(0)
+// A packet that its ties and facts fill, lent to be read.
+#[derive(Drop)]
+struct Filled<'a> {
+    packet: Packet<'a>,
 }
 
-// The same. Where all facts fit, a look at all of them at once tells.
-fn first_bad_fact(packet: &[u8], n: usize) -> Reply
-    requires { Whole packet.now }
-    ensures { result ≡ first_bad_fact n packet.now }
-{
-    if words::all_fit(packet, n) {
-        return Reply::Done(0);
+impl<'a> Model for Filled<'a> {
+    ghost Value = { List ℕ };
+
+    ghost view = { λ f. f.packet };
+
+    ghost invariant = { λ f. Whole f.packet };
+}
+
+impl<'a> Filled<'a> {
+    // The facts, four bytes each. They end where the packet does.
+    fn facts(&self) -> &'a [[u8; 4]]
+        ensures count { length result.now ≡ fact_count self.now }
+        ensures each { (i : ℕ) → i < fact_count self.now → get_or result.now i [] ≡ take 4 (drop (fact_at self.now i) self.now) }
+    {
+        let (facts, _) = self.packet.bytes()[self.packet.fact_at(0)..].as_chunks::<4>();
+        facts
     }
-    find_bad_fact(packet, n)
+
+    // The first tie that is none.
+    fn first_bad_tie(&self, v: usize) -> Reply
+        ensures { result ≡ first_bad_tie v self.now }
+    {
+        first_unfit(
+            6,
+            2,
+            self.packet.tie_count(),
+            |at| tie_fits(&self.packet, at, v),
+        )
+    }
+
+    // The first fact that is none, looked for fact by fact.
+    fn find_bad_fact(&self, n: usize) -> Reply
+        ensures { result ≡ first_bad_fact n self.now }
+    {
+        first_unfit(
+            self.packet.fact_at(0),
+            4,
+            self.packet.fact_count(),
+            |at| fact_fits(&self.packet, at, n),
+        )
+    }
+
+    // The same. Where all facts fit, a look at all of them at once tells.
+    fn first_bad_fact(&self, n: usize) -> Reply
+        ensures { result ≡ first_bad_fact n self.now }
+    {
+        if words::all_fit(self, n) {
+            return Ok(0);
+        }
+        self.find_bad_fact(n)
+    }
 }
 
 // Replies 5 to 9: the first thing that is wrong, in the order of their numbers.
@@ -137,26 +157,26 @@ fn packet_reply(packet: &[u8], w: Wanted, n: usize, v: usize) -> Reply
     ensures { result ≡ packet_reply w n v packet.now }
 {
     if !length_fits(packet) {
-        return Reply::Refused(Cause::BadLength, 0);
+        return Err(Refusal(Cause::BadLength, 0));
     }
-    if packets::byte_at(packet, 2) != 1 {
-        return Reply::Refused(Cause::BadVersion, 2);
+    let packet = Packet::of(packet);
+    if packet.version() != 1 {
+        return Err(Refusal(Cause::BadVersion, 2));
     }
-    if packets::byte_at(packet, 3) != w.purpose {
-        return Reply::Refused(Cause::BadHeader, 3);
+    if packet.purpose() != w.purpose {
+        return Err(Refusal(Cause::BadHeader, 3));
     }
-    if !runs::in_range(packets::byte_at(packet, 4), w.ties.from, w.ties.to) {
-        return Reply::Refused(Cause::BadHeader, 4);
+    if !w.ties.has(packet.tie_count()) {
+        return Err(Refusal(Cause::BadHeader, 4));
     }
-    if !runs::in_range(packets::byte_at(packet, 5), w.joints.from, w.joints.to) {
-        return Reply::Refused(Cause::BadHeader, 5);
+    if !w.joints.has(packet.joint_count()) {
+        return Err(Refusal(Cause::BadHeader, 5));
     }
-    if !count_fits(packet) {
-        return Reply::Refused(Cause::BadCount, 0);
+    if !count_fits(&packet) {
+        return Err(Refusal(Cause::BadCount, 0));
     }
-    let ties = first_bad_tie(packet, v);
-    let facts = first_bad_fact(packet, n);
-    replies::first_of(ties, facts)
+    let filled = Filled { packet };
+    filled.first_bad_tie(v).and(filled.first_bad_fact(n))
 }
 
 // At take: a packet of facts on the session's v joints.

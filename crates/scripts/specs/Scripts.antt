@@ -1,30 +1,14 @@
 -- How a script is read, letter by letter: where one is in it, what is written of its text, and the bytes of a call. Only the programs of examples
 -- rest on this.
 -- Assumes nothing.
-use Rattle.std.specs.Prelude.{◌≡◌, ◌≢◌, ◌<◌, ◌⊎◌, false, Bool, cond, not, ◌&&◌, ◌||◌, List, ℕ, zero, suc, ◌+◌, ◌-◌, ◌*◌, ◌%◌, eqb, ltb, replicate}
+use Rattle.std.specs.Prelude.{◌≡◌, ◌≢◌, ◌<◌, ◌⊎◌, false, Bool, cond, not, ◌&&◌, ◌||◌, List, [], ◌∷◌, ℕ, zero, suc, ◌+◌, ◌-◌, ◌*◌, ◌%◌, eqb, ltb, replicate, Option, IfSome, MatchOption}
+use Rattle.std.specs.Io.KnownBytes.{Consumes}
 use Rattle.runs.specs.Runs.{within}
 use Rattle.scripts.specs.Rooms.{byte_at, with_byte, inside_of}
 use Rattle.scripts.specs.declared.Bytes.{Bytes}
+use Rattle.scripts.specs.declared.Part.{Part}
+use Rattle.scripts.specs.declared.Part.TheVariants.{InText, InComment, AtLetter, InBytes, AtSecondDigit, Called}
 use Rattle.scripts.specs.declared.Script.{Script}
-
--- where in a script one is: the second digit is that of a byte
-abbrev pub in_text : ℕ
-in_text = 0
-
-abbrev pub in_comment : ℕ
-in_comment = 1
-
-abbrev pub at_letter : ℕ
-at_letter = 2
-
-abbrev pub in_bytes : ℕ
-in_bytes = 3
-
-abbrev pub at_second_digit : ℕ
-at_second_digit = 4
-
-abbrev pub called : ℕ
-called = 5
 
 -- the signs of a script, and the first digit and the first letter of hex numbers
 abbrev pub line_end : ℕ
@@ -55,20 +39,33 @@ abbrev pub no_bytes : Bytes
 no_bytes = record { room = replicate 5253 0; size = 0 }
 
 abbrev pub begun_script : Script
-begun_script = record { part = in_text; letter = 0; digit = 0; bytes = no_bytes }
+begun_script = record { part = InText; letter = 0; bytes = no_bytes }
 
 -- a letter that begins neither a comment nor a call
 abbrev pub is_plain : ℕ → Bool
 is_plain c = not (eqb c hash) && not (eqb c opening)
 
 -- what is written as it stands: such a letter outside of comments and calls
-abbrev pub is_text : ℕ → ℕ → Bool
-is_text part c = (eqb part in_text || eqb part called) && is_plain c
+abbrev pub is_text : Part → ℕ → Bool
+is_text InText c = is_plain c
+is_text InComment c = false
+is_text AtLetter c = false
+is_text InBytes c = false
+is_text (AtSecondDigit first) c = false
+is_text Called c = is_plain c
+
+-- where one is behind a letter outside of calls and comments
+abbrev pub begun_after : ℕ → Part
+begun_after c = cond (eqb c hash) InComment (cond (eqb c opening) AtLetter InText)
 
 -- where one is behind a letter outside of calls
-abbrev pub text_after : ℕ → ℕ → ℕ
-text_after part c =
-    cond (eqb part in_comment) (cond (eqb c line_end) in_text in_comment) (cond (eqb c hash) in_comment (cond (eqb c opening) at_letter in_text))
+abbrev pub text_after : Part → ℕ → Part
+text_after InComment c = cond (eqb c line_end) InText InComment
+text_after InText c = begun_after c
+text_after AtLetter c = begun_after c
+text_after InBytes c = begun_after c
+text_after (AtSecondDigit first) c = begun_after c
+text_after Called c = begun_after c
 
 abbrev pub digit_of : ℕ → ℕ
 digit_of c = cond (within zero_digit 57 c) (c - zero_digit) (cond (within letter_a 70 c) (c - letter_a + 10) 0)
@@ -99,16 +96,21 @@ with_repeats bytes =
 abbrev pub call_after : Script → ℕ → Script
 call_after script c =
     cond (eqb c blank || eqb c line_end) script
-    (cond (eqb c closing) (record { part = called; letter = script.letter; digit = 0; bytes = script.bytes })
-    (cond (eqb c star) (record { part = in_bytes; letter = script.letter; digit = 0; bytes = with_repeats script.bytes })
-    (record { part = at_second_digit; letter = script.letter; digit = digit_of c; bytes = script.bytes })))
+    (cond (eqb c closing) (record { part = Called; letter = script.letter; bytes = script.bytes })
+    (cond (eqb c star) (record { part = InBytes; letter = script.letter; bytes = with_repeats script.bytes })
+    (record { part = AtSecondDigit (digit_of c); letter = script.letter; bytes = script.bytes })))
+
+-- the script behind a letter, by where one was
+abbrev pub after_part : Part → Script → ℕ → Script
+after_part AtLetter script c = record { part = InBytes; letter = c; bytes = no_bytes }
+after_part InBytes script c = call_after script c
+after_part (AtSecondDigit first) script c = record { part = InBytes; letter = script.letter; bytes = with_digits script.bytes first (digit_of c) }
+after_part InText script c = record { part = text_after InText c; letter = script.letter; bytes = script.bytes }
+after_part InComment script c = record { part = text_after InComment c; letter = script.letter; bytes = script.bytes }
+after_part Called script c = record { part = text_after Called c; letter = script.letter; bytes = script.bytes }
 
 abbrev pub script_after : Script → ℕ → Script
-script_after script c =
-    cond (eqb script.part at_letter) (record { part = in_bytes; letter = c; digit = 0; bytes = no_bytes })
-    (cond (eqb script.part in_bytes) (call_after script c)
-    (cond (eqb script.part at_second_digit) (record { part = in_bytes; letter = script.letter; digit = 0; bytes = with_digits script.bytes script.digit (digit_of c) })
-    (record { part = text_after script.part c; letter = script.letter; digit = script.digit; bytes = script.bytes })))
+script_after script c = after_part script.part script c
 
 -- bytes that cannot be repeated: too few for a fact, its step and a number, or more than a room holds
 abbrev pub CannotRepeat : Bytes → Type 0
@@ -118,3 +120,19 @@ CannotRepeat bytes = (5252 < bytes.size) ⊎ (bytes.size < 9)
 abbrev pub IsFault : Script → ℕ → Type 0
 IsFault script c =
     ((c ≡ star) × CannotRepeat script.bytes) ⊎ ((c ≢ star) × (c ≢ blank) × (c ≢ line_end) × (c ≢ closing) × NoDigit c)
+
+-- the letters of a script on the input xs: its bytes up to one that is zero, at most so many
+unfoldable pub letters_of : ℕ → List ℕ → List ℕ
+letters_of zero xs = []
+letters_of (suc most) [] = []
+letters_of (suc most) (c ∷ xs) = cond (eqb c 0) [] (c ∷ letters_of most xs)
+
+-- what reading a letter did to a reader: it gave the next byte, or none where no letter is left
+abbrev pub NextLetter : Option ℕ → Option (List ℕ) → Option (List ℕ) → Type 0
+NextLetter letter old new = IfSome old (λ xs. MatchOption letter (letters_of 1 xs ≡ []) (λ c. (c ≢ 0) × Consumes old new (c ∷ [])))
+
+-- one letter is read, and where it ends a call, the call is answered; `answers` says what an answer makes of what it has at hand
+pub record Turn {A : Type 0} (answers : A → Script → A → Type 0) (before : Script × A) (c : ℕ) (behind : Script × A) : Type 0 where
+  pub read : behind.0 ≡ script_after before.0 c
+  pub answered : behind.0.part ≡ Called → answers before.1 behind.0 behind.1
+  pub kept : behind.0.part ≢ Called → behind.1 ≡ before.1

@@ -6,48 +6,49 @@
 // clauses `err` say, and leaves nothing but what the writer took.
 #![tactic(auto)]
 
-ghost use Rattle.std.specs.Prelude.{◌≡◌, ◌-◌, ◌*◌, ◌<◌, ◌⊎◌, true, IfOk, OnErr};
+ghost use Rattle.std.specs.Prelude.{◌≡◌, ℕ, ◌-◌, ◌*◌, ◌<◌, ◌⊎◌, List, true, Ok, IfOk, OnOk, OnErr, IfSome};
+ghost use Rattle.std.specs.List.{FoldsTo};
 ghost use Rattle.scripts.specs.Rooms.{byte_at, with_byte, number_at, inside_of, put_bytes, CannotPut, flat_entry, flat_table, table_after, summed, sum_of};
-ghost use Rattle.scripts.specs.Scripts.{in_bytes, at_second_digit, NoDigit, CannotRepeat, IsFault};
+ghost use Rattle.scripts.specs.declared.Part.TheVariants.{InBytes, AtSecondDigit};
+ghost use Rattle.scripts.specs.Scripts.{NoDigit, CannotRepeat, IsFault, letters_of, NextLetter, Turn};
 ghost use Rattle.scripts.specs.Scripts.{no_bytes, begun_script, is_plain, is_text, text_after, digit_of, with_digits, repeated_facts, with_repeats, call_after, script_after};
 
 use std::io;
-use std::io::Write;
+use std::io::{Read, Write};
 
-// Where in a script one is: in its text, in a comment, before the letter of a call, in its bytes, before the second digit of one, behind the call.
-const TEXT: u8 = 0;
-
-const COMMENT: u8 = 1;
-
-const LETTER: u8 = 2;
-
-const BYTES: u8 = 3;
-
-const SECOND_DIGIT: u8 = 4;
-
-pub const CALLED: u8 = 5;
+// Where in a script one is.
+#[derive(Clone, Copy, PartialEq, Eq, Debug)]
+pub enum Part {
+    // In its text, outside of comments and calls.
+    InText,
+    // Behind a `#`, up to the end of the line.
+    InComment,
+    // Before the letter of a call.
+    AtLetter,
+    // In the bytes of a call.
+    InBytes,
+    // In them too, behind the first digit of a byte.
+    AtSecondDigit(u8),
+    // Behind the call.
+    Called,
+}
 
 // Room for a table, an output or the bytes of a call, or for a block with one byte and a number behind it.
 pub type Room = [u8; 5253];
 
-// The bytes of a call, and how many they are.
+// The bytes of a call, and how many they are. There is no heap: they have fixed room, and a size that is over it is told by a `?`.
 #[derive(Clone, Copy)]
 pub struct Bytes {
     pub room: Room,
     pub size: usize,
 }
 
-// A script as far as it is read: where one is, and of a call its letter, its bytes, and the first digit of the next one.
+// A script as far as it is read: where one is, and of a call its letter and its bytes.
 #[derive(Clone, Copy)]
 pub struct Script {
-    pub part: u8,
+    pub part: Part,
     pub letter: u8,
-    pub digit: u8,
     pub bytes: Bytes,
-}
-
-fn write_letter<W: Write>(out: &mut W, c: u8) -> io::Result<()> {
-    out.write_all(&[c])
 }
 
 // A size or an offset that lies inside a room; 0 for one that does not, and a `?` is written.
@@ -56,52 +57,43 @@ pub fn inside<W: Write>(out: &mut W, size: usize) -> io::Result<usize>
     ensures err { OnErr result (5252 < size) }
 {
     if 5252 < size {
-        write_letter(out, b'?')?;
+        out.write_all(b"?")?;
         return Ok(0);
     }
     Ok(size)
 }
 
-fn wide(x: u8) -> usize
-    ensures { (result ≡ x) × (result < 256) }
-{
-    x as usize
-}
-
 // The byte at a place; behind the last one the first.
-fn byte(room: Room, at: usize) -> usize
-    ensures { (result ≡ byte_at room at) × (result < 256) }
+fn byte(room: &Room, at: usize) -> usize
+    ensures { (result ≡ byte_at room.now at) × (result < 256) }
 {
-    wide(room[at % 5253])
+    usize::from(room[at % 5253])
 }
 
-fn set(room: Room, at: usize, x: usize) -> Room
-    ensures { result ≡ with_byte room at x }
+fn set(room: &mut Room, at: usize, x: usize)
+    ensures { room.new ≡ with_byte room.old at x }
 {
-    let mut next = room;
-    next[at % 5253] = (x % 256) as u8;
-    next
+    room[at % 5253] = (x % 256) as u8;
 }
 
 // The number of two bytes at a place.
-pub fn number(room: Room, at: usize) -> usize
+pub fn number(room: &Room, at: usize) -> usize
     requires { at < 65536 }
-    ensures { (result ≡ number_at room at) × (result < 65536) }
+    ensures { (result ≡ number_at room.now at) × (result < 65536) }
 {
     256 * byte(room, at) + byte(room, at + 1)
 }
 
 // The room with the bytes of a call in it: an offset, and what stands there.
-pub fn put<W: Write>(out: &mut W, room: Room, bytes: Bytes) -> io::Result<Room>
-    ensures done { IfOk result (λ r. r ≡ put_bytes room bytes) }
-    ensures err { OnErr result (CannotPut bytes) }
+pub fn put<W: Write>(out: &mut W, room: Room, bytes: &Bytes) -> io::Result<Room>
+    ensures done { IfOk result (λ r. r ≡ put_bytes room bytes.now) }
+    ensures err { OnErr result (CannotPut bytes.now) }
 {
-    let from = bytes.room;
     let mut next = room;
+    // By place: that of a byte in the room is worked out from its own, and may lie outside.
     for i in 2..inside(out, bytes.size)? {
-        let at = inside(out, number(from, 0) + i - 2)?;
-        let more = set(next, at, byte(from, i));
-        next = more;
+        let at = inside(out, number(&bytes.room, 0) + i - 2)?;
+        set(&mut next, at, byte(&bytes.room, i));
     }
     Ok(next)
 }
@@ -113,23 +105,18 @@ fn flat_entry(p: usize, n: usize) -> usize
     if n == 0 {
         return 0;
     }
-    let i = p / n;
-    let j = p % n;
-    if i == j {
-        return i;
+    match (p / n, p % n) {
+        (i, j) if i == j => i,
+        (1, j) => j,
+        (i, 1) => i,
+        _ => 0,
     }
-    if i == 1 {
-        return j;
-    }
-    if j == 1 {
-        return i;
-    }
-    0
 }
 
 fn flat_table(n: usize) -> Room
     ensures { result ≡ flat_table n }
 {
+    // By place: what `array::from_fn` ensures at a place leaves open which n its closure has there.
     let mut table = [0u8; 5253];
     for p in 0..5253 {
         table[p] = (flat_entry(p, n) % 256) as u8;
@@ -138,13 +125,13 @@ fn flat_table(n: usize) -> Room
 }
 
 // The table after a call: `k`, the flat table of so many kinds; `e`, bytes put into the table.
-pub fn next_table<W: Write>(out: &mut W, letter: u8, table: Room, bytes: Bytes) -> io::Result<Room>
-    ensures done { IfOk result (λ r. r ≡ table_after letter table bytes) }
-    ensures err { OnErr result ((letter ≡ 101) × CannotPut bytes) }
+pub fn next_table<W: Write>(out: &mut W, letter: u8, table: Room, bytes: &Bytes) -> io::Result<Room>
+    ensures done { IfOk result (λ r. r ≡ table_after letter table bytes.now) }
+    ensures err { OnErr result ((letter ≡ 101) × CannotPut bytes.now) }
 {
-    let room = bytes.room;
+    // A letter is the script's own name for a call, and other letters are the programs' own.
     match letter {
-        b'k' => Ok(flat_table(number(room, 0))),
+        b'k' => Ok(flat_table(number(&bytes.room, 0))),
         b'e' => put(out, table, bytes),
         _ => Ok(table),
     }
@@ -164,9 +151,8 @@ pub fn begun() -> Script
     ensures { result ≡ begun_script }
 {
     Script {
-        part: TEXT,
+        part: Part::InText,
         letter: 0,
-        digit: 0,
         bytes: no_bytes(),
     }
 }
@@ -175,114 +161,90 @@ pub fn begun() -> Script
 fn is_plain(c: u8) -> bool
     ensures { result ≡ is_plain c }
 {
-    if c == b'#' {
-        return false;
-    }
-    c != b'['
+    c != b'#' && c != b'['
 }
 
 // Whether a letter is one of the text, which is written.
-pub fn is_text(part: u8, c: u8) -> bool
+pub fn is_text(part: Part, c: u8) -> bool
     ensures { result ≡ is_text part c }
 {
-    if part == TEXT {
-        return is_plain(c);
+    match part {
+        Part::InText | Part::Called => is_plain(c),
+        _ => false,
     }
-    if part == CALLED {
-        return is_plain(c);
-    }
-    false
 }
 
 // Where one is behind a letter outside of calls.
-fn text_after(part: u8, c: u8) -> u8
+fn text_after(part: Part, c: u8) -> Part
     ensures { result ≡ text_after part c }
 {
-    if part == COMMENT {
-        if c == b'\n' {
-            return TEXT;
-        }
-        return COMMENT;
+    match (part, c) {
+        (Part::InComment, b'\n') => Part::InText,
+        (Part::InComment, _) | (_, b'#') => Part::InComment,
+        (_, b'[') => Part::AtLetter,
+        _ => Part::InText,
     }
-    if c == b'#' {
-        return COMMENT;
-    }
-    if c == b'[' {
-        return LETTER;
-    }
-    TEXT
 }
 
-// What stands for a digit that is none.
-fn no_digit<W: Write>(out: &mut W) -> io::Result<u8>
-    ensures { IfOk result (λ r. r ≡ 0) }
-{
-    write_letter(out, b'?')?;
-    Ok(0)
-}
-
-// The value of a hex digit.
+// The value of a hex digit; 0 for a letter that is none, and a `?` is written.
 fn digit<W: Write>(out: &mut W, c: u8) -> io::Result<u8>
     ensures done { IfOk result (λ r. (r ≡ digit_of c) × (r < 16)) }
     ensures err { OnErr result (NoDigit c) }
 {
-    if c < b'0' {
-        return no_digit(out);
+    match c {
+        b'0'..=b'9' => Ok(c - b'0'),
+        b'A'..=b'F' => Ok(c - b'A' + 10),
+        _ => {
+            out.write_all(b"?")?;
+            Ok(0)
+        }
     }
-    if c <= b'9' {
-        return Ok(c - b'0');
-    }
-    if c < b'A' {
-        return no_digit(out);
-    }
-    if c <= b'F' {
-        return Ok(c - b'A' + 10);
-    }
-    no_digit(out)
 }
 
 // The bytes with one more, of two digits.
-fn with_digits<W: Write>(out: &mut W, bytes: Bytes, first: u8, second: u8) -> io::Result<Bytes>
-    ensures done { IfOk result (λ r. r ≡ with_digits bytes first second) }
-    ensures err { OnErr result (5252 < bytes.size) }
+fn with_digits<W: Write>(out: &mut W, bytes: &Bytes, first: u8, second: u8) -> io::Result<Bytes>
+    ensures done { IfOk result (λ r. r ≡ with_digits bytes.now first second) }
+    ensures err { OnErr result (5252 < bytes.now.size) }
 {
-    let room = bytes.room;
     let size = inside(out, bytes.size)?;
+    let mut room = bytes.room;
+    let x = 16 * usize::from(first) + usize::from(second);
+    set(&mut room, size, x);
     Ok(Bytes {
-        room: set(room, size, 16 * wide(first) + wide(second)),
+        room,
         size: size + 1,
     })
 }
 
 // So many facts, of which the first stands at a place, with its step behind it.
-fn repeated(room: Room, base: usize, count: usize) -> Room
+fn repeated(room: &Room, base: usize, count: usize) -> Room
     requires { (base < 5253) × (count < 256) }
-    ensures { result ≡ repeated_facts room base (4 * count - 4) }
+    ensures { result ≡ repeated_facts room.now base (4 * count - 4) }
 {
-    let mut next = room;
+    let mut next = *room;
+    // By place: a byte is made of the one four before it, which may just have been made, and behind the last place comes the first.
     for i in 4..4 * count {
         let step = byte(room, base + 4 + i % 4);
-        let more = set(next, base + i, byte(next, base + i - 4) + step);
-        next = more;
+        let x = byte(&next, base + i - 4) + step;
+        set(&mut next, base + i, x);
     }
     next
 }
 
 // The bytes with the last nine of them, a fact, its step and a number, made so many facts.
-fn with_repeats<W: Write>(out: &mut W, bytes: Bytes) -> io::Result<Bytes>
-    ensures done { IfOk result (λ r. r ≡ with_repeats bytes) }
-    ensures err { OnErr result (CannotRepeat bytes) }
+fn with_repeats<W: Write>(out: &mut W, bytes: &Bytes) -> io::Result<Bytes>
+    ensures done { IfOk result (λ r. r ≡ with_repeats bytes.now) }
+    ensures err { OnErr result (CannotRepeat bytes.now) }
 {
-    let room = bytes.room;
     let size = inside(out, bytes.size)?;
     if size < 9 {
-        write_letter(out, b'?')?;
-        return Ok(bytes);
+        out.write_all(b"?")?;
+        return Ok(*bytes);
     }
     let base = size - 9;
-    let count = byte(room, base + 8);
+    let count = byte(&bytes.room, base + 8);
     Ok(Bytes {
-        room: repeated(room, base, count),
+        room: repeated(&bytes.room, base, count),
         size: base + 4 * count,
     })
 }
@@ -292,80 +254,50 @@ fn call_after<W: Write>(out: &mut W, script: Script, c: u8) -> io::Result<Script
     ensures done { IfOk result (λ r. r ≡ call_after script c) }
     ensures err { OnErr result (IsFault script c) }
 {
-    let letter = script.letter;
-    let bytes = script.bytes;
-    if c == b' ' {
-        return Ok(script);
+    match c {
+        b' ' | b'\n' => Ok(script),
+        b']' => Ok(Script {
+            part: Part::Called,
+            ..script
+        }),
+        b'*' => Ok(Script {
+            part: Part::InBytes,
+            bytes: with_repeats(out, &script.bytes)?,
+            ..script
+        }),
+        _ => Ok(Script {
+            part: Part::AtSecondDigit(digit(out, c)?),
+            ..script
+        }),
     }
-    if c == b'\n' {
-        return Ok(script);
-    }
-    if c == b']' {
-        return Ok(Script {
-            part: CALLED,
-            letter,
-            digit: 0,
-            bytes,
-        });
-    }
-    if c == b'*' {
-        return Ok(Script {
-            part: BYTES,
-            letter,
-            digit: 0,
-            bytes: with_repeats(out, bytes)?,
-        });
-    }
-    Ok(Script {
-        part: SECOND_DIGIT,
-        letter,
-        digit: digit(out, c)?,
-        bytes,
-    })
 }
 
 // The script behind its next letter.
 pub fn after<W: Write>(out: &mut W, script: Script, c: u8) -> io::Result<Script>
     ensures done { IfOk result (λ r. r ≡ script_after script c) }
-    ensures err { OnErr result (((script.part ≡ in_bytes) × IsFault script c)
-        ⊎ ((script.part ≡ at_second_digit) × (NoDigit c ⊎ (5252 < script.bytes.size)))) }
+    ensures err { OnErr result (((script.part ≡ InBytes) × IsFault script c)
+        ⊎ ((first : ℕ) × ((script.part ≡ AtSecondDigit first) × (NoDigit c ⊎ (5252 < script.bytes.size))))) }
 {
-    let part = script.part;
-    let letter = script.letter;
-    let first = script.digit;
-    let bytes = script.bytes;
-    if part == LETTER {
-        return Ok(Script {
-            part: BYTES,
+    match script.part {
+        Part::AtLetter => Ok(Script {
+            part: Part::InBytes,
             letter: c,
-            digit: 0,
             bytes: no_bytes(),
-        });
+        }),
+        Part::InBytes => call_after(out, script, c),
+        Part::AtSecondDigit(first) => {
+            let second = digit(out, c)?;
+            Ok(Script {
+                part: Part::InBytes,
+                bytes: with_digits(out, &script.bytes, first, second)?,
+                ..script
+            })
+        }
+        part => Ok(Script {
+            part: text_after(part, c),
+            ..script
+        }),
     }
-    if part == BYTES {
-        return call_after(out, script, c);
-    }
-    if part == SECOND_DIGIT {
-        let second = digit(out, c)?;
-        return Ok(Script {
-            part: BYTES,
-            letter,
-            digit: 0,
-            bytes: with_digits(out, bytes, first, second)?,
-        });
-    }
-    Ok(Script {
-        part: text_after(part, c),
-        letter,
-        digit: first,
-        bytes,
-    })
-}
-
-fn write_digit<W: Write>(out: &mut W, x: usize) -> io::Result<()>
-    requires { x < 16 }
-{
-    write_letter(out, (48 + x + x / 10 * 7) as u8)
 }
 
 // The sum with one more byte, which is written where it is to be shown.
@@ -375,21 +307,57 @@ fn with_byte<W: Write>(out: &mut W, sum: usize, x: usize, shown: bool) -> io::Re
     ensures err { OnErr result (shown ≡ true) }
 {
     if shown {
-        write_letter(out, b' ')?;
-        write_digit(out, x / 16)?;
-        write_digit(out, x % 16)?;
+        write!(out, " {x:02X}")?;
     }
     Ok((sum % 65521 * 31 + x) % 65521)
 }
 
 // A sum by which so many bytes of a room and their places tell; the bytes are written too where they are to be shown.
-pub fn sum<W: Write>(out: &mut W, room: Room, size: usize, shown: bool) -> io::Result<usize>
-    ensures done { IfOk result (λ r. r ≡ sum_of room size) }
+pub fn sum<W: Write>(out: &mut W, room: &Room, size: usize, shown: bool) -> io::Result<usize>
+    ensures done { IfOk result (λ r. r ≡ sum_of room.now size) }
     ensures err { OnErr result ((shown ≡ true) × (0 < size)) }
 {
     let mut sum = 0;
+    // By place: a size may be over the room's, and behind the last byte the first is read.
     for i in 0..size {
         sum = with_byte(out, sum, byte(room, i), shown)?;
     }
     Ok(sum)
+}
+
+// The next letter of a script; none at the end of the input, nor at a zero byte.
+fn next_letter<R: Read>(input: &mut R) -> io::Result<Option<u8>>
+    ensures { IfOk result (λ c. NextLetter c (R.remaining input.old) (R.remaining input.new)) }
+{
+    let mut letters = [0u8; 1];
+    if input.read(&mut letters)? == 0 || letters[0] == 0 {
+        return Ok(None);
+    }
+    Ok(Some(letters[0]))
+}
+
+// Writes the text of the script that is read, and gives each call to `answer`, which writes what stands in its place.
+pub fn run<R: Read, W: Write, F: FnMut(&mut W, &Script) -> io::Result<()>>(
+    input: &mut R,
+    out: &mut W,
+    mut answer: F,
+) -> io::Result<()>
+    requires { (f : _) (w : _) (s : _) → F.pre f w s }
+    ensures { OnOk result ((letters : List ℕ) × IfSome (R.remaining input.old) (λ xs. letters ≡ letters_of 65536 xs) × (last : _)
+        × FoldsTo (Turn (λ f script g. (w : _) × (s : _) × (v : _) × (s.now ≡ script) × F.step f w s (Ok tt) v g)) (begun_script, answer) letters last) }
+{
+    let mut script = begun();
+    for _ in 0..65536usize {
+        let Some(c) = next_letter(input)? else {
+            return Ok(());
+        };
+        if is_text(script.part, c) {
+            out.write_all(&[c])?;
+        }
+        script = after(out, script, c)?;
+        if let Part::Called = script.part {
+            answer(out, &script)?;
+        }
+    }
+    Ok(())
 }

@@ -8,6 +8,7 @@ use Prim.Native.Nat.{ℕ, ◌+◌, ◌*◌, ◌<◌, ◌≤◌}
 use native.Mathlib.Omega.{arith}
 use native.Mathlib.Decide.{ℕ_discrete, dec_lt}
 use lib.ListN.{get_or}
+use Rattle.std.specs.Prelude.{Result, Ok, Err}
 use Rattle.kinds.specs.Kinds.{meet_at}
 use Rattle.meaning.specs.Picture.{Fact}
 use Rattle.meaning.specs.Picture.Fact.{has_kind, same, leads}
@@ -70,13 +71,10 @@ module _ {n v : ℕ} {table class kind rows : List ℕ} (d : Ready n v table (li
       known_takes t = known_taken d.well hx hl known t
 
       pub known_took :
-          {y : ℕ} {ok : Bool} {T : Form} → Took n meet v S (same (get_or rows (get_or class x 0 * 16 + l) 0) y ∷ []) ok T
-          → Took n meet v S (leads x l y ∷ []) ok T
-      known_took t =
-          record {
-            taken = λ z. known_taken d.well hx hl known (t.taken z);
-            refuted = λ z. known_refuted d.well hx hl known (t.refuted z);
-          }
+          {A E : Type 0} (y : ℕ) (r : Result A E) (T : A → Form)
+          → Took n meet v S (same (get_or rows (get_or class x 0 * 16 + l) 0) y ∷ []) r T → Took n meet v S (leads x l y ∷ []) r T
+      known_took y (Ok _) T t = known_taken d.well hx hl known t
+      known_took y (Err _) T t = known_refuted d.well hx hl known t
 
   -- the two are one already
   pub same_takes : {x y : ℕ} → x < v → y < v → get_or class x 0 ≡ get_or class y 0 → Taken n meet v S (same x y ∷ []) S

@@ -1,31 +1,47 @@
--- The two answers of a function that takes facts, and facts taken in two turns.
+-- What the answer of a function that takes facts says, and facts taken in two turns.
 -- Assumes nothing.
-use mathlib.Core.Path.{◌≡◌, sym, ◌∙◌}
-use mathlib.Core.Bool.{Bool, true, false, true≢false, false≢true}
+use mathlib.Core.Path.{◌≡◌}
+use mathlib.Core.Bool.{true, false, true≢false, false≢true}
 use mathlib.Core.List.{List, ◌++◌}
 use Prim.Native.Nat.{ℕ}
+use Rattle.std.specs.Prelude.{Result, Ok, Err, IsErr, is_err, OnOk}
 use Rattle.kinds.specs.Kinds.{meet_at}
 use Rattle.meaning.specs.Picture.{Fact}
 use Rattle.meaning.specs.Form.{Form}
 use Rattle.meaning.specs.Solving.{Taken, Refuted}
-use Rattle.meaning.proofs.Takes.{taken_then, refuted_then, refuted_more}
+use Rattle.meaning.proofs.Takes.{taken_then, refuted_then}
 use Rattle.solver.specs.Unpacked.{Ready, Took}
 
-module _ {n : ℕ} {meet : ℕ → ℕ → ℕ} {v : ℕ} {S : Form} (fs : List (Fact ℕ)) (T : Form) where
-  pub took_taken : Taken n meet v S fs T → Took n meet v S fs true T
-  took_taken t = record { taken = λ _. t; refuted = λ e. absurd (true≢false e) }
+module _ {A E : Type 0} where
+  -- what an answer says where it is an error, and where it is none
+  pub took_refuted :
+      {n : ℕ} {meet : ℕ → ℕ → ℕ} {v : ℕ} {S : Form} (fs : List (Fact ℕ)) (r : Result A E) (T : A → Form) → IsErr r
+      → Refuted n meet v S fs → Took n meet v S fs r T
+  took_refuted fs (Ok x) T e c = absurd (false≢true e)
+  took_refuted fs (Err d) T e c = c
 
-  pub took_refuted : Refuted n meet v S fs → Took n meet v S fs false T
-  took_refuted c = record { taken = λ e. absurd (false≢true e); refuted = λ _. c }
+  pub refuted_of :
+      {n : ℕ} {meet : ℕ → ℕ → ℕ} {v : ℕ} {S : Form} (fs : List (Fact ℕ)) (r : Result A E) (T : A → Form) → is_err r ≡ true
+      → Took n meet v S fs r T → Refuted n meet v S fs
+  refuted_of fs (Ok x) T e t = absurd (false≢true e)
+  refuted_of fs (Err d) T e t = t
 
--- the first facts are taken, and then the others are or are not; or the first are not
-module _ {n : ℕ} {meet : ℕ → ℕ → ℕ} {v : ℕ} {S T : Form} (fs gs : List (Fact ℕ)) where
-  pub took_then : {U : Form} {ok : Bool} → Taken n meet v S fs T → Took n meet v T gs ok U → Took n meet v S (fs ++ gs) ok U
-  took_then a b = record { taken = λ e. taken_then a (b.taken e); refuted = λ e. refuted_then gs a (b.refuted e) }
+  pub taken_of :
+      {n : ℕ} {meet : ℕ → ℕ → ℕ} {v : ℕ} {S : Form} (fs : List (Fact ℕ)) (r : Result A E) (T : Form) → is_err r ≡ false
+      → Took n meet v S fs r (λ _. T) → Taken n meet v S fs T
+  taken_of fs (Ok x) T e t = t
+  taken_of fs (Err d) T e t = absurd (true≢false e)
 
-  pub took_not : {ok : Bool} → ok ≡ false → Took n meet v S fs ok T → Took n meet v S (fs ++ gs) ok T
-  took_not e b =
-      record { taken = λ q. absurd (true≢false (sym q ∙ e)); refuted = λ q. refuted_more n meet v S fs gs (b.refuted q) }
+  pub on_ok : {P : Type 0} (r : Result A E) → is_err r ≡ false → OnOk r P → P
+  on_ok (Ok x) e p = p
+  on_ok (Err d) e p = absurd (true≢false e)
+
+  -- the first facts are taken, and then the others are or are not
+  pub took_then :
+      {n : ℕ} {meet : ℕ → ℕ → ℕ} {v : ℕ} {S T : Form} (fs gs : List (Fact ℕ)) (r : Result A E) (U : A → Form)
+      → Taken n meet v S fs T → Took n meet v T gs r U → Took n meet v S (fs ++ gs) r U
+  took_then fs gs (Ok x) U a b = taken_then a b
+  took_then fs gs (Err e) U a b = refuted_then gs a b
 
 -- the form that facts make is as ready as the one before
 pub ready_after :

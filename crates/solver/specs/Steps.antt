@@ -1,7 +1,7 @@
 -- What the steps of solving do: to a form, when two classes are joined or one place is set, and to the list of pairs of nodes that are
 -- still to be made one. Only the solver's own functions cite these.
 -- Assumes nothing.
-use Rattle.std.specs.Prelude.{◌≡◌, ◌≢◌, ◌⊎◌, ◌↔◌, Bool, true, false, cond, List, ℕ, ◌+◌, ◌*◌, ◌<◌, ◌≤◌, eqb, length, get_or, set}
+use Rattle.std.specs.Prelude.{◌≡◌, ◌≢◌, ◌⊎◌, ◌↔◌, Bool, true, false, Result, MatchResult, cond, not, ◌&&◌, List, ℕ, ◌+◌, ◌*◌, ◌<◌, ◌≤◌, eqb, length, get_or, set}
 use Rattle.meaning.specs.Picture.{Picture, Placing, Fact, All}
 use Rattle.meaning.specs.Form.{Form, list_form, unknown, classes}
 use Rattle.meaning.specs.Solving.{Smallest, Well, Models}
@@ -15,9 +15,9 @@ renumber b a x = cond (eqb x b) a x
 abbrev pub known_of : ℕ → ℕ → ℕ
 known_of x y = cond (eqb x unknown) y x
 
--- 1 where both links are known, else 0
-abbrev pub both_known : ℕ → ℕ → ℕ
-both_known x y = cond (eqb x unknown) 0 (cond (eqb y unknown) 0 1)
+-- whether both links are known
+abbrev pub both_known : ℕ → ℕ → Bool
+both_known x y = not (eqb x unknown) && not (eqb y unknown)
 
 -- t is s with number b become a
 pub record Renumbered (s : List ℕ) (b a : ℕ) (t : List ℕ) : Type 0 where
@@ -74,32 +74,35 @@ pub record InOrder (a b low high : ℕ) : Type 0 where
   pub less : low < high
   pub which : ((low ≡ a) × (high ≡ b)) ⊎ ((low ≡ b) × (high ≡ a))
 
--- the first size pairs hold: left and right have one element
-abbrev pub Pairs : List ℕ → List ℕ → ℕ → (ℕ → ℕ) → Type 0
-Pairs left right size σ = (i : ℕ) → i < size → σ (get_or left i 0) ≡ σ (get_or right i 0)
+abbrev pub pair_at : List (ℕ × ℕ) → ℕ → ℕ × ℕ
+pair_at pairs i = get_or pairs i (0, 0)
+
+-- the first size pairs hold: the two of each have one element
+abbrev pub Pairs : List (ℕ × ℕ) → ℕ → (ℕ → ℕ) → Type 0
+Pairs pairs size σ = (i : ℕ) → i < size → σ (pair_at pairs i).0 ≡ σ (pair_at pairs i).1
 
 -- S with the pairs means what S₀ with the facts does. There is room for 16 pairs more at each of the joins that are still possible.
 pub record Running
-    (n : ℕ) (meet : ℕ → ℕ → ℕ) (v : ℕ) (S₀ : Form) (fs : List (Fact ℕ)) (S : Form) (left right : List ℕ) (size : ℕ)
+    (n : ℕ) (meet : ℕ → ℕ → ℕ) (v : ℕ) (S₀ : Form) (fs : List (Fact ℕ)) (S : Form) (pairs : List (ℕ × ℕ)) (size : ℕ)
     : Type 0 where
   pub well : Well n v S
-  pub inside : (i : ℕ) → i < size → (get_or left i 0 < v) × (get_or right i 0 < v)
+  pub inside : (i : ℕ) → i < size → ((pair_at pairs i).0 < v) × ((pair_at pairs i).1 < v)
   pub room : size + 16 * classes S v ≤ 16 * v + 1
   pub means :
       (P : Picture n) (σ : ℕ → ℕ) → Placing P σ
-      → (Models meet v S P σ × Pairs left right size σ) ↔ (Models meet v S₀ P σ × All meet P σ fs)
+      → (Models meet v S P σ × Pairs pairs size σ) ↔ (Models meet v S₀ P σ × All meet P σ fs)
 
 -- The new pairs, from size to size', are the ends x l and y l of the links l < m that are known in both.
-pub record Pushed (m : ℕ) (x y : ℕ → ℕ) (left right : List ℕ) (size : ℕ) (left' right' : List ℕ) (size' : ℕ) : Type 0 where
+pub record Pushed (m : ℕ) (x y : ℕ → ℕ) (pairs : List (ℕ × ℕ)) (size : ℕ) (pairs' : List (ℕ × ℕ)) (size' : ℕ) : Type 0 where
   pub more : size ≤ size'
   pub most : size' ≤ size + m
-  pub old : (i : ℕ) → i < size → (get_or left' i 0 ≡ get_or left i 0) × (get_or right' i 0 ≡ get_or right i 0)
+  pub old : (i : ℕ) → i < size → pair_at pairs' i ≡ pair_at pairs i
   pub new :
       (i : ℕ) → size ≤ i → i < size'
-      → (l : ℕ) × (l < m) × (x l ≢ unknown) × (y l ≢ unknown) × (get_or left' i 0 ≡ x l) × (get_or right' i 0 ≡ y l)
+      → (l : ℕ) × (l < m) × (x l ≢ unknown) × (y l ≢ unknown) × (pair_at pairs' i ≡ (x l, y l))
   pub all :
       (l : ℕ) → l < m → x l ≢ unknown → y l ≢ unknown
-      → (i : ℕ) × (i < size') × (get_or left' i 0 ≡ x l) × (get_or right' i 0 ≡ y l)
+      → (i : ℕ) × (i < size') × (pair_at pairs' i ≡ (x l, y l))
 
 -- two classes in order, of a well-formed form of v nodes
 pub record Joinable (n v : ℕ) (class kind rows : List ℕ) (low high : ℕ) : Type 0 where
@@ -111,28 +114,26 @@ pub record Joinable (n v : ℕ) (class kind rows : List ℕ) (low high : ℕ) : 
   pub high_smallest : Smallest v (list_form class kind rows) high
 
 -- what a step asks for: a lawful table, two classes that can be joined, and room for 16 pairs in place of the last
-pub record JoinReady (n v : ℕ) (table class kind rows : List ℕ) (low high : ℕ) (left right : List ℕ) (size : ℕ) : Type 0 where
+pub record JoinReady (n v : ℕ) (table class kind rows : List ℕ) (low high : ℕ) (pairs : List (ℕ × ℕ)) (size : ℕ) : Type 0 where
   pub ready : Ready n v table (list_form class kind rows)
   pub joinable : Joinable n v class kind rows low high
   pub some : 0 < size
-  pub room_left : size + 15 ≤ length left
-  pub room_right : size + 15 ≤ length right
+  pub room : size + 15 ≤ length pairs
 
 -- the two classes joined, and the ends of the links known in both pushed
 pub record JoinDone
-    (meet : ℕ → ℕ → ℕ) (S : Form) (low high : ℕ) (left right : List ℕ) (size : ℕ) (T : Form) (left' right' : List ℕ) (size' : ℕ)
+    (meet : ℕ → ℕ → ℕ) (S : Form) (low high : ℕ) (pairs : List (ℕ × ℕ)) (size : ℕ) (T : Form) (pairs' : List (ℕ × ℕ)) (size' : ℕ)
     : Type 0 where
   pub some : meet (S.kind low) (S.kind high) ≢ 0
   pub joined : Joined S low high (meet (S.kind low) (S.kind high)) T
-  pub pushed : Pushed 16 (S.link low) (S.link high) left right size left' right' size'
+  pub pushed : Pushed 16 (S.link low) (S.link high) pairs size pairs' size'
 
 -- ... or their kinds have nothing in common
-pub record JoinStep
-    (meet : ℕ → ℕ → ℕ) (S : Form) (low high : ℕ) (left right : List ℕ) (size : ℕ)
-    (ok : Bool) (T : Form) (left' right' : List ℕ) (size' : ℕ)
-    : Type 0 where
-  pub done : ok ≡ true → JoinDone meet S low high left right size T left' right' size'
-  pub clash : ok ≡ false → meet (S.kind low) (S.kind high) ≡ 0
+abbrev pub JoinStep :
+    {E : Type 0} (meet : ℕ → ℕ → ℕ) (S : Form) (low high : ℕ) (pairs : List (ℕ × ℕ)) (size : ℕ) → Result ℕ E
+    → (T : Form) (pairs' : List (ℕ × ℕ)) → Type 0
+JoinStep meet S low high pairs size r T pairs' =
+    MatchResult r (JoinDone meet S low high pairs size T pairs') (λ _. meet (S.kind low) (S.kind high) ≡ 0)
 
 -- two classes joined from which nothing more follows, or the form as it was
 pub record JoinedAlone (meet : ℕ → ℕ → ℕ) (S : Form) (low high : ℕ) (yes : Bool) (T : Form) : Type 0 where

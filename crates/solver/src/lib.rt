@@ -1,17 +1,25 @@
 // The solver: one fact more, and all that follows from it, or a clash.
 #![tactic(auto)]
 
-ghost use Rattle.std.specs.Prelude.{◌≡◌, ◌≢◌, true, false, List, [], ◌∷◌, ℕ, ◌+◌, ◌-◌, ◌*◌, ◌<◌, ◌≤◌, get_or, length, set};
-ghost use Rattle.kinds.specs.Kinds.{meet_at};
+ghost use Rattle.std.specs.Prelude.{◌≡◌, ◌≢◌, true, false, is_ok, IfOk, OnOk, List, [], ◌∷◌, ℕ, ◌+◌, ◌-◌, ◌*◌, ◌<◌, ◌≤◌, get_or, length, set};
+ghost use Rattle.kinds.specs.Tables.{meet_of};
+ghost use Rattle.runs.specs.Runs.{each};
+ghost use Rattle.meaning.specs.Picture.{Fact as PictureFact};
 ghost use Rattle.meaning.specs.Picture.Fact.{same};
 ghost use Rattle.meaning.specs.Form.{list_form, unknown, classes};
 ghost use Rattle.meaning.specs.Solving.{InRange};
-ghost use Rattle.solver.specs.Unpacked.{form_of, rows_size, Lent, Named, node_fact, Ready, Took, TookPlainly};
+ghost use Rattle.meaning.specs.declared.Fact.{Fact as CodeFact};
+ghost use Rattle.solver.specs.Unpacked.{form_of, rows_size, Named, node_fact, Ready, Took, TookPlainly, Gives, Folded};
 ghost use Rattle.solver.specs.Steps.{renumber, known_of, both_known, InOrder, Renumbered, RowOf, RowPut, RowsJoined, Unnamed, Joined};
 ghost use Rattle.solver.specs.Steps.{Pushed, Joinable, JoinReady, JoinStep, JoinedAlone, KindMet, LinkPut};
 
+use kinds::Table;
+use meaning::Fact;
+
 // The unpacked solved form of up to 96 nodes: the rig's joints first, then those of a rule. What is known of the nodes goes by value; the
-// rows, 16 links for each node, 255 for a link not known, are lent beside it.
+// rows, 16 links for each node, are lent beside it. A link not known is the byte 255 and no None: the rows are those of the block.
+// That the form, the rows and the table are ready (`Ready`) stands in each contract: it is a fact about the three together, and no one of them holds
+// the others.
 #[derive(Clone, Copy)]
 pub struct Solved {
     // The class number of each node, the smallest node of its class; 0 behind the nodes.
@@ -20,24 +28,17 @@ pub struct Solved {
     pub kind: [u8; 96],
     // From this node on no row names one, where that is asked for (`Named`).
     pub top: u8,
-    // False for a clash: then nothing is said of the nodes and the rows.
-    pub ok: bool,
 }
+
+// No picture satisfies the facts. Nothing is then said of the nodes and the rows.
+#[derive(Clone, Copy, PartialEq, Eq)]
+pub struct Clash;
+
+// The rows of 96 nodes, 16 links for each.
+pub type Rows = [u8; 1536];
 
 // A fact on nodes: a kind, an equality, or a numbered link.
-#[derive(Clone, Copy)]
-pub enum NodeFact {
-    Kind(u8, u8),
-    Same(u8, u8),
-    Link(u8, u8, u8),
-}
-
-// Facts taken one after another, until one clashes: the form, and how many were taken before that one; all of them, where the form is no clash.
-#[derive(Clone, Copy)]
-pub struct Fold {
-    pub form: Solved,
-    pub at: usize,
-}
+pub type NodeFact = Fact<u8>;
 
 // b becomes a, any other number stays.
 fn renumbered(x: u8, b: u8, a: u8) -> u8
@@ -50,39 +51,27 @@ fn renumbered(x: u8, b: u8, a: u8) -> u8
 fn renumber_all(s: &mut [u8], b: u8, a: u8)
     ensures { Renumbered s.old b a s.new }
 {
-    let mut i = 0;
-    while i < s.len() {
-        s[i] = renumbered(s[i], b, a);
-        i += 1;
+    for x in s.iter_mut() {
+        *x = renumbered(*x, b, a);
     }
 }
 
 // The row of node j.
-fn row_of(rows: &[u8], j: usize) -> [u8; 16]
-    requires { (j < 96) × (length rows.now ≡ rows_size) }
+fn row_of(rows: &Rows, j: usize) -> [u8; 16]
+    requires { j < 96 }
     ensures { RowOf rows.now j result }
 {
     let mut row = [0u8; 16];
-    let base = j * 16;
-    let mut l = 0;
-    while l < 16 {
-        row[l] = rows[base + l];
-        l += 1;
-    }
+    row.copy_from_slice(&rows[j * 16..j * 16 + 16]);
     row
 }
 
 // The row of node j becomes row.
-fn put_row(rows: &mut [u8], j: usize, row: [u8; 16])
-    requires { (j < 96) × (length rows.old ≡ rows_size) }
+fn put_row(rows: &mut Rows, j: usize, row: [u8; 16])
+    requires { j < 96 }
     ensures { RowPut rows.old j row rows.new }
 {
-    let base = j * 16;
-    let mut l = 0;
-    while l < 16 {
-        rows[base + l] = row[l];
-        l += 1;
-    }
+    rows[j * 16..j * 16 + 16].copy_from_slice(&row);
 }
 
 // Of two links the one that is known, the first where both are.
@@ -92,61 +81,49 @@ fn known_of(x: u8, y: u8) -> u8
     if x == 255 { y } else { x }
 }
 
-// The row of a class made of two: each link that one of them knows.
+// The row of a class made of two: each link that one of them knows. (Three rows are gone through at one place; an iterator over the three is no plainer.)
 fn merged(x: [u8; 16], y: [u8; 16]) -> [u8; 16]
     ensures { (l : ℕ) → l < 16 → get_or result l 0 ≡ known_of (get_or x l 0) (get_or y l 0) }
 {
     let mut row = [0u8; 16];
-    let mut l = 0;
-    while l < 16 {
+    for l in 0..16 {
         row[l] = known_of(x[l], y[l]);
-        l += 1;
     }
     row
 }
 
-// 1 where both links are known, else 0.
-fn both_known(x: u8, y: u8) -> u8
-    ensures { (result ≡ both_known x y) × (result ≤ 1) }
+// Whether both links are known.
+fn both_known(x: u8, y: u8) -> bool
+    ensures { result ≡ both_known x y }
 {
-    if x == 255 {
-        return 0;
-    }
-    if y == 255 { 0 } else { 1 }
+    (x != 255) & (y != 255)
 }
 
 // Where both rows know a link, its two ends are a new pair. The new number of pairs.
-// Each pair is written in any case, and the next one over it where it does not count.
-fn pushed(x: [u8; 16], y: [u8; 16], left: &mut [u8], right: &mut [u8], size: usize) -> usize
-    requires { (size + 16 ≤ length left.old) × (size + 16 ≤ length right.old) }
-    ensures { Pushed 16 (λ l. get_or x l 0) (λ l. get_or y l 0)
-        left.old right.old size
-        left.new right.new result }
+// Each pair is written in any case, and the next one over it where it does not count: a filter would ask at each link.
+fn pushed(x: [u8; 16], y: [u8; 16], pairs: &mut [(u8, u8)], size: usize) -> usize
+    requires { size + 16 ≤ length pairs.old }
+    ensures { Pushed 16 (λ l. get_or x l 0) (λ l. get_or y l 0) pairs.old size pairs.new result }
 {
     let mut count = size;
-    let mut l = 0;
-    while l < 16 {
-        left[count] = x[l];
-        right[count] = y[l];
-        count += both_known(x[l], y[l]) as usize;
-        l += 1;
+    for l in 0..16 {
+        pairs[count] = (x[l], y[l]);
+        count += usize::from(both_known(x[l], y[l]));
     }
     count
 }
 
-// Two class numbers, the smaller first.
-#[derive(Clone, Copy)]
-struct Two(u8, u8);
-
 // Two different numbers, the smaller first.
-fn in_order(a: u8, b: u8) -> Two
+fn in_order(a: u8, b: u8) -> (u8, u8)
     requires { a ≢ b }
     ensures { InOrder a b result.0 result.1 }
 {
-    if a < b { Two(a, b) } else { Two(b, a) }
+    (a.min(b), a.max(b))
 }
 
 // The class b is joined to a, which has kind k from then on.
+// On slices, as the steps below are: a slice keeps its length behind a call, while of the arrays behind `&mut self` each step would have to
+// promise it, and that `top` stays.
 fn join_classes(class: &mut [u8], kind: &mut [u8], a: u8, b: u8, k: u8)
     requires { (length kind.old ≡ 96) × (a < 96) × (b < 96) }
     ensures { Renumbered class.old b a class.new × (kind.new ≡ set (set kind.old a k) b 0) }
@@ -158,8 +135,8 @@ fn join_classes(class: &mut [u8], kind: &mut [u8], a: u8, b: u8, k: u8)
 
 // The row of a gets the links that b knows and a does not, that of b is given up, and every link to b leads to a. `named` may be false
 // where no row names b: then there is none.
-fn join_rows(rows: &mut [u8], v: usize, a: u8, b: u8, named: bool)
-    requires fact_1 { (length rows.old ≡ rows_size) × (v ≤ 96) × (a < b) × (b < v) }
+fn join_rows(rows: &mut Rows, v: usize, a: u8, b: u8, named: bool)
+    requires fact_1 { (v ≤ 96) × (a < b) × (b < v) }
     requires fact_2 { (named ≡ false → Unnamed b rows.old) }
     ensures { RowsJoined rows.old v a b rows.new }
 {
@@ -176,7 +153,7 @@ fn join_rows(rows: &mut [u8], v: usize, a: u8, b: u8, named: bool)
 fn join_two(
     class: &mut [u8],
     kind: &mut [u8],
-    rows: &mut [u8],
+    rows: &mut Rows,
     v: usize,
     low: u8,
     high: u8,
@@ -192,76 +169,64 @@ fn join_two(
     join_classes(class, kind, low, high, k);
 }
 
-// What joining two classes makes: the new number of pairs, or a clash.
-#[derive(Clone, Copy)]
-struct Step {
-    ok: bool,
-    size: usize,
-}
-
 // The last pair is taken off, the classes low and high are joined, and the ends of the links known in both are new pairs;
-// or the two kinds have nothing in common.
+// or the two kinds have nothing in common. The new number of pairs.
 fn join_step(
     class: &mut [u8],
     kind: &mut [u8],
-    rows: &mut [u8],
-    table: &[u8],
-    n: usize,
+    rows: &mut Rows,
+    table: Table<'_>,
     v: usize,
     low: u8,
     high: u8,
-    left: &mut [u8],
-    right: &mut [u8],
+    pairs: &mut [(u8, u8)],
     size: usize,
-) -> Step
-    requires { JoinReady n v table.now class.old kind.old rows.old low high left.old right.old size }
-    ensures { JoinStep (meet_at n table.now) (list_form class.old kind.old rows.old) low high
-        left.old right.old (size - 1)
-        result.ok (list_form class.new kind.new rows.new) left.new right.new result.size }
+) -> Result<usize, Clash>
+    requires { JoinReady table.n v table.entries.now class.old kind.old rows.old low high pairs.old size }
+    ensures { JoinStep (meet_of table.entry) (list_form class.old kind.old rows.old) low high
+        pairs.old (size - 1)
+        result (list_form class.new kind.new rows.new) pairs.new }
 {
     let i = kind[low as usize];
     let j = kind[high as usize];
-    let k = kinds::meet(table, n, i as usize, j as usize);
+    let k = table.meet(i as usize, j as usize);
     if k == 0 {
-        return Step { ok: false, size };
+        return Err(Clash);
     }
     let x = row_of(rows, low as usize);
     let y = row_of(rows, high as usize);
-    let count = pushed(x, y, left, right, size - 1);
+    let count = pushed(x, y, pairs, size - 1);
     join_two(class, kind, rows, v, low, high, k, true);
-    Step {
-        ok: true,
-        size: count,
-    }
+    Ok(count)
 }
 
-// The kind of x's class is met with s. False where they have nothing in common: then nothing is changed.
-fn met_kind(class: &[u8], kind: &mut [u8], table: &[u8], n: usize, x: u8, s: u8) -> bool
+// The kind of x's class is met with s. A clash where they have nothing in common: then nothing is changed.
+fn met_kind(class: &[u8], kind: &mut [u8], table: Table<'_>, x: u8, s: u8) -> Result<(), Clash>
     requires class_len { (length class.now ≡ 96) × (length kind.old ≡ 96) × (x < 96) × (get_or class.now x 0 < 96) }
-    requires n_bound { (n ≤ 64) × (length table.now ≡ n * n) × (get_or kind.old (get_or class.now x 0) 0 < n) × (s < n) }
-    ensures { KindMet (meet_at n table.now) class.now kind.old x s result kind.new }
+    requires kinds { (get_or kind.old (get_or class.now x 0) 0 < table.n) × (s < table.n) }
+    ensures { KindMet (meet_of table.entry) class.now kind.old x s (is_ok result) kind.new }
 {
     let a = class[x as usize] as usize;
     let known = kind[a];
-    let met = kinds::meet(table, n, known as usize, s as usize);
+    let met = table.meet(known as usize, s as usize);
     if met == 0 {
-        return false;
+        return Err(Clash);
     }
     kind[a] = met;
-    true
+    Ok(())
 }
 
 // Where link l of x's class leads.
-fn end_of(class: &[u8], rows: &[u8], x: u8, l: u8) -> u8
-    requires { (length class.now ≡ 96) × (length rows.now ≡ rows_size) × (x < 96) × (get_or class.now x 0 < 96) × (l < 16) }
+fn end_of(class: &[u8], rows: &Rows, x: u8, l: u8) -> u8
+    requires { (length class.now ≡ 96) × (x < 96) × (get_or class.now x 0 < 96) × (l < 16) }
     ensures { result ≡ get_or rows.now (get_or class.now x 0 * 16 + l) 0 }
 {
     rows[class[x as usize] as usize * 16 + l as usize]
 }
 
 // Link l of x's class leads to y's class. False where it was known already: then nothing is changed.
-fn put_link(class: &[u8], rows: &mut [u8], x: u8, l: u8, y: u8) -> bool
-    requires { (length class.now ≡ 96) × (length rows.old ≡ rows_size) × (x < 96) × (get_or class.now x 0 < 96) × (l < 16) × (y < 96) }
+fn put_link(class: &[u8], rows: &mut Rows, x: u8, l: u8, y: u8) -> bool
+    requires { (length class.now ≡ 96) × (x < 96) × (get_or class.now x 0 < 96) × (l < 16) × (y < 96) }
     ensures { LinkPut class.now rows.old x l y result rows.new }
 {
     let at = class[x as usize] as usize * 16 + l as usize;
@@ -273,94 +238,172 @@ fn put_link(class: &[u8], rows: &mut [u8], x: u8, l: u8, y: u8) -> bool
 }
 
 impl Solved {
-    // x and y made one, and all that follows from it. The pairs still to be made one wait in two lists. A join adds at most 16
+    // x and y made one, and all that follows from it. The pairs still to be made one wait in a list. A join adds at most 16
     // pairs and leaves one class less, so that 16 × 97 places are enough for 96 nodes.
-    fn with_same(self, rows: &mut [u8], table: &[u8], n: usize, v: usize, x: u8, y: u8) -> Solved
-        requires { Ready n v table.now (form_of self rows.old) × (x < v) × (y < v) × (length rows.old ≡ rows_size) }
-        ensures { Took n (meet_at n table.now) v (form_of self rows.old) (same x y ∷ [])
-            result.ok (form_of result rows.new) × (result.top ≡ v) }
+    fn with_same(
+        mut self,
+        rows: &mut Rows,
+        table: Table<'_>,
+        v: usize,
+        x: u8,
+        y: u8,
+    ) -> Result<Solved, Clash>
+        requires { Ready table.n v table.entries.now (form_of self rows.old) × (x < v) × (y < v) }
+        ensures { Took table.entry.n (meet_of table.entry) v (form_of self rows.old) (same x y ∷ []) result (λ next. form_of next rows.new)
+            × IfOk result (λ next. next.top ≡ v) }
     {
-        let mut left = [0u8; 1552];
-        let mut right = [0u8; 1552];
-        left[0] = x;
-        right[0] = y;
+        let mut pairs = [(0u8, 0u8); 1552];
+        pairs[0] = (x, y);
         let mut size = 1;
-        let mut class = self.class;
-        let mut kind = self.kind;
         while 0 < size {
-            let p = left[size - 1];
-            let q = right[size - 1];
-            let a = class[p as usize];
-            let b = class[q as usize];
+            let (p, q) = pairs[size - 1];
+            let a = self.class[p as usize];
+            let b = self.class[q as usize];
             if a == b {
                 size -= 1;
             } else {
                 let o = in_order(a, b);
-                let s = join_step(
-                    &mut class, &mut kind, rows, table, n, v, o.0, o.1, &mut left, &mut right, size,
-                );
-                if !s.ok {
-                    return Solved {
-                        class,
-                        kind,
-                        top: v as u8,
-                        ok: false,
-                    };
-                }
-                size = s.size;
+                let class = &mut self.class;
+                let kind = &mut self.kind;
+                size = join_step(class, kind, rows, table, v, o.0, o.1, &mut pairs, size)?;
             }
         }
-        Solved {
-            class,
-            kind,
-            top: v as u8,
-            ok: true,
-        }
+        self.top = v as u8;
+        Ok(self)
     }
 
     // The form with one fact more and all that follows from it, or a clash.
     pub fn with_fact(
-        self,
-        rows: &mut [u8],
-        table: &[u8],
-        n: usize,
+        mut self,
+        rows: &mut Rows,
+        table: Table<'_>,
         v: usize,
         fact: NodeFact,
-    ) -> Solved
-        requires { (self.ok ≡ true) × (length rows.old ≡ rows_size)
-            × Ready n v table.now (form_of self rows.old) × InRange n v (node_fact fact) }
-        ensures { Took n (meet_at n table.now) v (form_of self rows.old) (node_fact fact ∷ [])
-            result.ok (form_of result rows.new) × (result.top ≡ v) }
+    ) -> Result<Solved, Clash>
+        requires { Ready table.n v table.entries.now (form_of self rows.old) × InRange table.n v (node_fact fact) }
+        ensures { Took table.entry.n (meet_of table.entry) v (form_of self rows.old) (node_fact fact ∷ []) result (λ next. form_of next rows.new)
+            × IfOk result (λ next. next.top ≡ v) }
     {
         match fact {
             NodeFact::Kind(x, s) => {
-                let class = self.class;
-                let mut kind = self.kind;
-                let ok = met_kind(&class, &mut kind, table, n, x, s);
-                Solved {
-                    class,
-                    kind,
-                    top: v as u8,
-                    ok,
-                }
+                met_kind(&self.class, &mut self.kind, table, x, s)?;
+                self.top = v as u8;
+                Ok(self)
             }
-            NodeFact::Same(x, y) => self.with_same(rows, table, n, v, x, y),
+            NodeFact::Same(x, y) => self.with_same(rows, table, v, x, y),
             // Where the link is known already, its end and y are made one.
             NodeFact::Link(x, l, y) => {
-                let class = self.class;
-                if put_link(&class, rows, x, l, y) {
-                    let kind = self.kind;
-                    return Solved {
-                        class,
-                        kind,
-                        top: v as u8,
-                        ok: true,
-                    };
+                if put_link(&self.class, rows, x, l, y) {
+                    self.top = v as u8;
+                    return Ok(self);
                 }
-                let end = end_of(&class, rows, x, l);
-                self.with_same(rows, table, n, v, end, y)
+                let end = end_of(&self.class, rows, x, l);
+                self.with_same(rows, table, v, end, y)
             }
         }
+    }
+
+    // x and y made one, where nothing more follows from it. A "no" changes nothing.
+    fn made_one(&mut self, rows: &mut Rows, table: Table<'_>, v: usize, x: u8, y: u8) -> bool
+        requires ready { Ready table.n v table.entries.now (form_of self.old rows.old) × Named self.old.top (form_of self.old rows.old) }
+        requires lent { (x < v) × (y < v) }
+        ensures { TookPlainly table.entry.n (meet_of table.entry) v (form_of self.old rows.old) (same x y) result (form_of self.new rows.new)
+            × Named self.new.top (form_of self.new rows.new) }
+    {
+        let a = self.class[x as usize];
+        let b = self.class[y as usize];
+        if a == b {
+            return true;
+        }
+        let o = in_order(a, b);
+        let top = self.top;
+        joined_alone(
+            &mut self.class,
+            &mut self.kind,
+            rows,
+            top,
+            table,
+            v,
+            o.0,
+            o.1,
+        )
+    }
+
+    // One fact taken in place, where at most two classes are joined and nothing more follows from it. A "no" says nothing, and changes nothing.
+    pub fn take_plainly(
+        &mut self,
+        rows: &mut Rows,
+        table: Table<'_>,
+        v: usize,
+        fact: NodeFact,
+    ) -> bool
+        requires ready { Ready table.n v table.entries.now (form_of self.old rows.old) × Named self.old.top (form_of self.old rows.old) }
+        requires lent { InRange table.n v (node_fact fact) }
+        ensures { TookPlainly table.entry.n (meet_of table.entry) v (form_of self.old rows.old) (node_fact fact) result (form_of self.new rows.new)
+            × Named self.new.top (form_of self.new rows.new) }
+    {
+        match fact {
+            NodeFact::Kind(x, s) => { met_kind(&self.class, &mut self.kind, table, x, s).is_ok() }
+            NodeFact::Same(x, y) => self.made_one(rows, table, v, x, y),
+            NodeFact::Link(x, l, y) => {
+                let c = self.class[y as usize];
+                if put_link(&self.class, rows, x, l, y) {
+                    self.top = self.top.max(c + 1);
+                    return true;
+                }
+                let end = end_of(&self.class, rows, x, l);
+                if end == c {
+                    return true;
+                }
+                self.made_one(rows, table, v, end, y)
+            }
+        }
+    }
+
+    // One fact and all that follows from it, by value, and the form put in the place of this one; or a clash.
+    pub fn take_wholly(
+        &mut self,
+        rows: &mut Rows,
+        table: Table<'_>,
+        v: usize,
+        fact: NodeFact,
+    ) -> Result<(), Clash>
+        requires ready { Ready table.n v table.entries.now (form_of self.old rows.old) }
+        requires lent { InRange table.n v (node_fact fact) }
+        ensures { Took table.entry.n (meet_of table.entry) v (form_of self.old rows.old) (node_fact fact ∷ []) result (λ _. form_of self.new rows.new)
+            × OnOk result (self.new.top ≡ v) }
+    {
+        *self = self.with_fact(rows, table, v, fact)?;
+        Ok(())
+    }
+
+    // The facts 0 to count - 1 taken, one after the other: each in place where little follows from it, else with all that does. Where one
+    // clashes, how many were taken before it.
+    pub fn take_all<F: Fn(usize) -> NodeFact>(
+        &mut self,
+        rows: &mut Rows,
+        table: Table<'_>,
+        v: usize,
+        count: usize,
+        fact: F,
+    ) -> Result<(), usize>
+        requires ready { Ready table.n v table.entries.now (form_of self.old rows.old) × Named self.old.top (form_of self.old rows.old) }
+        requires callable { (i : ℕ) → i < count → F.pre fact i }
+        requires in_range { (i : ℕ) (f : CodeFact ℕ) → i < count → F.post fact i f → InRange table.n v (node_fact f) }
+        ensures folded { (facts : ℕ → PictureFact ℕ) → Gives (F.post fact) count facts
+            → Folded table.entry.n (meet_of table.entry) v (form_of self.old rows.old) (each facts 0 count) result (form_of self.new rows.new) }
+        ensures named { OnOk result (Named self.new.top (form_of self.new rows.new)) }
+    {
+        for i in 0..count {
+            let next = fact(i);
+            if self.take_plainly(rows, table, v, next) {
+                continue;
+            }
+            if self.take_wholly(rows, table, v, next).is_err() {
+                return Err(i);
+            }
+        }
+        Ok(())
     }
 }
 
@@ -368,33 +411,32 @@ impl Solved {
 fn none_in_both(x: [u8; 16], y: [u8; 16]) -> bool
     ensures { result ≡ true → (l : ℕ) → l < 16 → get_or x l 0 ≢ unknown → get_or y l 0 ≢ unknown → ⊥ }
 {
-    let mut any = 0u8;
+    let mut any = false;
     for l in 0..16 {
-        any = any | both_known(x[l], y[l]);
+        any |= both_known(x[l], y[l]);
     }
-    any == 0
+    !any
 }
 
 // The classes low and high joined, where nothing more follows from it. A "no" changes nothing.
 fn joined_alone(
     class: &mut [u8],
     kind: &mut [u8],
-    rows: &mut [u8],
+    rows: &mut Rows,
     top: u8,
-    table: &[u8],
-    n: usize,
+    table: Table<'_>,
     v: usize,
     low: u8,
     high: u8,
 ) -> bool
-    requires ready { Ready n v table.now (list_form class.old kind.old rows.old) × Named top (list_form class.old kind.old rows.old) }
-    requires joinable { Joinable n v class.old kind.old rows.old low high }
-    ensures { JoinedAlone (meet_at n table.now) (list_form class.old kind.old rows.old) low high
+    requires ready { Ready table.n v table.entries.now (list_form class.old kind.old rows.old) × Named top (list_form class.old kind.old rows.old) }
+    requires joinable { Joinable table.n v class.old kind.old rows.old low high }
+    ensures { JoinedAlone (meet_of table.entry) (list_form class.old kind.old rows.old) low high
         result (list_form class.new kind.new rows.new) }
 {
     let i = kind[low as usize];
     let j = kind[high as usize];
-    let k = kinds::meet(table, n, i as usize, j as usize);
+    let k = table.meet(i as usize, j as usize);
     if k == 0 {
         return false;
     }
@@ -407,146 +449,14 @@ fn joined_alone(
     true
 }
 
-// x and y made one, where nothing more follows from it. A "no" changes nothing.
-fn made_one(
-    class: &mut [u8],
-    kind: &mut [u8],
-    rows: &mut [u8],
-    top: u8,
-    table: &[u8],
-    n: usize,
-    v: usize,
-    x: u8,
-    y: u8,
-) -> bool
-    requires ready { Ready n v table.now (list_form class.old kind.old rows.old) × Named top (list_form class.old kind.old rows.old) }
-    requires lent { Lent class.old kind.old rows.old × (x < v) × (y < v) }
-    ensures { TookPlainly n (meet_at n table.now) v (list_form class.old kind.old rows.old) (same x y)
-        result (list_form class.new kind.new rows.new)
-        × Named top (list_form class.new kind.new rows.new) }
-{
-    let a = class[x as usize];
-    let b = class[y as usize];
-    if a == b {
-        return true;
-    }
-    let o = in_order(a, b);
-    joined_alone(class, kind, rows, top, table, n, v, o.0, o.1)
-}
-
-// What taking a fact in place makes: whether it was taken, and from which node on no row names one.
-#[derive(Clone, Copy)]
-pub struct Plain {
-    pub yes: bool,
-    pub top: u8,
-}
-
-// From which node on no row names one, once one names c.
-fn above(top: u8, c: u8) -> u8
-    requires { c < 96 }
-    ensures { (top ≤ result) × (c < result) }
-{
-    if c < top { top } else { c + 1 }
-}
-
-// One fact taken in place, where at most two classes are joined and nothing more follows from it. A "no" says nothing, and changes nothing.
-pub fn take_plainly(
-    class: &mut [u8],
-    kind: &mut [u8],
-    rows: &mut [u8],
-    top: u8,
-    table: &[u8],
-    n: usize,
-    v: usize,
-    fact: NodeFact,
-) -> Plain
-    requires ready { Ready n v table.now (list_form class.old kind.old rows.old) × Named top (list_form class.old kind.old rows.old) }
-    requires lent { Lent class.old kind.old rows.old × InRange n v (node_fact fact) }
-    ensures { TookPlainly n (meet_at n table.now) v (list_form class.old kind.old rows.old) (node_fact fact)
-        result.yes (list_form class.new kind.new rows.new)
-        × Named result.top (list_form class.new kind.new rows.new) }
-{
-    match fact {
-        NodeFact::Kind(x, s) => {
-            let yes = met_kind(class, kind, table, n, x, s);
-            Plain { yes, top }
-        }
-        NodeFact::Same(x, y) => {
-            let yes = made_one(class, kind, rows, top, table, n, v, x, y);
-            Plain { yes, top }
-        }
-        NodeFact::Link(x, l, y) => {
-            let c = class[y as usize];
-            if put_link(class, rows, x, l, y) {
-                return Plain {
-                    yes: true,
-                    top: above(top, c),
-                };
-            }
-            let end = end_of(class, rows, x, l);
-            if end == c {
-                return Plain { yes: true, top };
-            }
-            let yes = made_one(class, kind, rows, top, table, n, v, end, y);
-            Plain { yes, top }
-        }
-    }
-}
-
-// One fact and all that follows from it, by value, and the nodes written back. False for a clash: then nothing is said of the nodes and the
-// rows.
-pub fn take_wholly(
-    class: &mut [u8],
-    kind: &mut [u8],
-    rows: &mut [u8],
-    table: &[u8],
-    n: usize,
-    v: usize,
-    fact: NodeFact,
-) -> bool
-    requires ready { Ready n v table.now (list_form class.old kind.old rows.old) }
-    requires lent { Lent class.old kind.old rows.old × InRange n v (node_fact fact) }
-    ensures { Took n (meet_at n table.now) v (list_form class.old kind.old rows.old) (node_fact fact ∷ [])
-        result (list_form class.new kind.new rows.new) }
-{
-    let mut own_class = [0u8; 96];
-    let mut own_kind = [0u8; 96];
-    runs::copy(&mut own_class, class);
-    runs::copy(&mut own_kind, kind);
-    let form = Solved {
-        class: own_class,
-        kind: own_kind,
-        top: v as u8,
-        ok: true,
-    };
-    let next = form.with_fact(rows, table, n, v, fact);
-    if !next.ok {
-        return false;
-    }
-    let next_class = next.class;
-    let next_kind = next.kind;
-    runs::copy(class, &next_class);
-    runs::copy(kind, &next_kind);
-    true
-}
-
-// 1 where the class number x is j itself, else 0.
-fn is_smallest(x: u8, j: usize) -> usize
-    ensures { (x ≡ j → result ≡ 1) × (x ≢ j → result ≡ 0) × (result ≤ 1) }
-{
-    if x as usize == j { 1 } else { 0 }
-}
-
-// How many classes the nodes below v make.
+// How many classes the nodes below v make: each has one node that is numbered by itself. (Added up without a branch; a node is its place.)
 pub fn classes_in(class: &[u8], v: usize) -> usize
     requires { v ≤ length class.now }
     ensures { (kind rows : List ℕ) → result ≡ classes (list_form class.now kind rows) v }
 {
     let mut count = 0;
-    let mut j = 0;
-    while j < v {
-        count += is_smallest(class[j], j);
-        j += 1;
+    for j in 0..v {
+        count += usize::from(class[j] as usize == j);
     }
     count
 }

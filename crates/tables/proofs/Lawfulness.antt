@@ -10,14 +10,13 @@ use native.Mathlib.Decide.{ℕ_discrete}
 use native.Mathlib.Nat.{div-add-mod', mod-lt, div-lt_iff_lt-mul}
 use lib.ListN.{get_or}
 use borrow.Author.Tests.{lt-ltb, ltb-true}
+use Rattle.std.specs.Prelude.{Ok, Err}
 use Rattle.kinds.specs.Kinds.{meet_at}
 use Rattle.kinds.specs.Laws.{Commutes, Associates, Lawful}
 use Rattle.kinds.proofs.Offset.{offset_lt}
 use Rattle.masks.specs.Masks.{Single}
 use Rattle.replies.specs.declared.Cause.{Cause}
-use Rattle.replies.specs.declared.Reply.{Reply}
-use Rattle.replies.specs.declared.Reply.TheVariants.{Done, Refused}
-use Rattle.replies.specs.Replies.{refuses}
+use Rattle.replies.specs.Replies.{refuses, Reply, refusal}
 use Rattle.replies.proofs.Laws.{first_passed, unless_passed, Each, each_append, each_left, each_right}
 use Rattle.tables.specs.Check.{Law, law_reply, for_each, entries, singles, pairs, triples, in_order, first_breach, table_reply}
 use Rattle.kinds.specs.Sizes.{AllKinds}
@@ -58,7 +57,7 @@ module _ (n : ℕ) (table : List ℕ) where
   passes_kept [] e = tt
   passes_kept (x ∷ xs) e = let q = first_passes x xs e in (q.0, passes_kept xs q.1)
 
-  kept_passes : (xs : List Law) → Kept xs → first_breach n table xs ≡ Done 0
+  pub kept_passes : (xs : List Law) → Kept xs → first_breach n table xs ≡ Ok 0
   kept_passes [] a = no_more n table
   kept_passes (x ∷ xs) a = first_kept n table x xs a.0 ∙ kept_passes xs a.1
 
@@ -66,7 +65,7 @@ module _ (n : ℕ) (table : List ℕ) where
   nothing xs a = ap refuses (kept_passes xs a)
 
   -- a check that refuses nothing is done with third 0
-  pub passes_done : (xs : List Law) → refuses (first_breach n table xs) ≡ false → first_breach n table xs ≡ Done 0
+  pub passes_done : (xs : List Law) → refuses (first_breach n table xs) ≡ false → first_breach n table xs ≡ Ok 0
   passes_done xs e = kept_passes xs (passes_kept xs e)
 
   pub kept_entries : Kept (entries n) ↔ AllKinds n table
@@ -77,7 +76,7 @@ module _ (n : ℕ) (table : List ℕ) where
   )
 
   -- what the laws that are kept say
-  pub singles_say : Kept (singles n) → (i : ℕ) → i < n → Single n table i
+  pub singles_say : Kept (singles n) → (i : ℕ) → i < n → Single (meet_at n table) i
   unfolding singles law_reply
   singles_say a i hi =
       let one = each_use (λ i. Law.self i ∷ Law.none i ∷ Law.any i ∷ []) n a i hi in
@@ -141,10 +140,10 @@ module _ (n : ℕ) (table : List ℕ) where
       (several_kept L.swap L.group))
 
 -- the check passes exactly when the table is lawful
-pub passes_lawful : (n : ℕ) (table : List ℕ) → table_reply n table ≡ Done 0 → Lawful n (meet_at n table)
+pub passes_lawful : (n : ℕ) (table : List ℕ) → table_reply n table ≡ Ok 0 → Lawful n (meet_at n table)
 passes_lawful n table e = kept_lawful n table (passes_kept n table (in_order n) (ap refuses e))
 
-pub lawful_passes : (n : ℕ) (table : List ℕ) → 0 < n → Lawful n (meet_at n table) → table_reply n table ≡ Done 0
+pub lawful_passes : (n : ℕ) (table : List ℕ) → 0 < n → Lawful n (meet_at n table) → table_reply n table ≡ Ok 0
 lawful_passes n table pos L = kept_passes n table (in_order n) (lawful_kept n table pos L)
 
 -- the reply tells of the first law that is broken, with its cause and place: all before it are kept
@@ -156,14 +155,14 @@ pub record FirstBreach (n : ℕ) (table : List ℕ) (order : List Law) (r : Repl
   pub place : ℕ
   pub where_it_stands : order ≡ earlier ++ (law ∷ later)
   pub earlier_kept : Kept n table earlier
-  pub law_broken : law_reply n table law ≡ Refused cause place
-  pub tells : r ≡ Refused cause place
+  pub law_broken : law_reply n table law ≡ refusal cause place
+  pub tells : r ≡ refusal cause place
 
 module _ (n : ℕ) (table : List ℕ) where
   by_law : (law : Law) (more : List Law) (answer : Reply) → law_reply n table law ≡ answer
       → (refuses (first_breach n table more) ≡ true → FirstBreach n table more (first_breach n table more))
       → refuses (first_breach n table (law ∷ more)) ≡ true → FirstBreach n table (law ∷ more) (first_breach n table (law ∷ more))
-  by_law law more (Done t) q f e =
+  by_law law more (Ok t) q f e =
       let k = first_kept n table law more (ap refuses q) in
       let b = f (ap refuses (sym k) ∙ e) in
       record {
@@ -177,13 +176,13 @@ module _ (n : ℕ) (table : List ℕ) where
         law_broken = b.law_broken;
         tells = k ∙ b.tells;
       }
-  by_law law more (Refused cause place) q f e =
+  by_law law more (Err r) q f e =
       record {
         earlier = [];
         law = law;
         later = more;
-        cause = cause;
-        place = place;
+        cause = r.0;
+        place = r.1;
         where_it_stands = refl;
         earlier_kept = tt;
         law_broken = q;

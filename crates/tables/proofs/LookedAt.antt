@@ -8,8 +8,8 @@ use mathlib.Core.List.{List, [], ◌∷◌, ◌++◌}
 use Prim.Native.Nat.{ℕ, ◌+◌, ◌≤◌, ◌<◌}
 use native.Mathlib.Omega.{arith}
 use native.Mathlib.Decide.{dec_lt}
-use Rattle.replies.specs.declared.Reply.{Reply}
-use Rattle.replies.specs.declared.Reply.TheVariants.{Done}
+use Rattle.std.specs.Prelude.{Ok}
+use Rattle.replies.specs.Replies.{Reply}
 use Rattle.tables.specs.Check.{Law, for_each, first_breach}
 use Rattle.tables.specs.Triples.{to_look_at, triples_meant}
 use Rattle.tables.proofs.Scan.{Loop, rest, begins, begins_at, opens, passes, closes, no_more}
@@ -38,7 +38,7 @@ module _ (n : ℕ) (table : List ℕ) where
 
 module _ {n : ℕ} {table : List ℕ} {r : Reply} {i : ℕ} where
   -- the largest kind is the first of none
-  pub first_ends : Loop n table r (with_first n) i n [] → n ≤ i + 1 → r ≡ Done 0
+  pub first_ends : Loop n table r (with_first n) i n [] → n ≤ i + 1 → r ≡ Ok 0
   first_ends l h =
       by_cases (dec_lt i n) (λ hi. closes (passes l hi (nothing n table (with_first n i) (each_make n table (with_middle n i) n
       (λ j _. each_make n table (with_last i j) n (λ k hk. not_told n table i j k (λ b. absurd (omega (arith, b.2)))))))) (omega arith) ∙ no_more n table)

@@ -8,10 +8,9 @@ use native.Mathlib.Omega.{arith}
 use native.Mathlib.Numerals.{add-one}
 use lib.Dec.{eqb}
 use borrow.Author.Tests.{eq-eqb, ne_eqb, eqb-true}
+use Rattle.std.specs.Prelude.{Ok}
 use Rattle.replies.specs.declared.Cause.{Cause}
-use Rattle.replies.specs.declared.Reply.{Reply}
-use Rattle.replies.specs.declared.Reply.TheVariants.{Done, Refused}
-use Rattle.replies.specs.Replies.{refuses, unless, first_refusal}
+use Rattle.replies.specs.Replies.{refuses, unless, first_refusal, Reply, refusal}
 use Rattle.replies.proofs.Laws.{first_none, first_front, front_refuses, front_passes, first_here, first_next, unless_passed}
 use Rattle.tables.specs.Check.{Law, law_reply, for_each, first_breach}
 
@@ -57,7 +56,7 @@ module _ (cause : Cause) (p : ℕ) where
   pub passed : {t : Bool} → t ≡ true → refuses (unless t cause p) ≡ false
   passed e = ap (λ (t : Bool). refuses (unless t cause p)) e
 
-  pub failed : {t : Bool} → t ≡ false → unless t cause p ≡ Refused cause p
+  pub failed : {t : Bool} → t ≡ false → unless t cause p ≡ refusal cause p
   failed e = ap (λ (t : Bool). unless t cause p) e
 
   pub equal : {a b : ℕ} → a ≡ b → refuses (unless (eqb a b) cause p) ≡ false
@@ -66,26 +65,26 @@ module _ (cause : Cause) (p : ℕ) where
   pub same : {a b : ℕ} → refuses (unless (eqb a b) cause p) ≡ false → a ≡ b
   same {a} {b} e = eqb-true a b (unless_passed (eqb a b) cause p e)
 
-  pub unequal : {a b : ℕ} → (a ≡ b → ⊥) → unless (eqb a b) cause p ≡ Refused cause p
+  pub unequal : {a b : ℕ} → (a ≡ b → ⊥) → unless (eqb a b) cause p ≡ refusal cause p
   unequal {a} {b} d = failed (ne_eqb a b d)
 
 module _ (n : ℕ) (table : List ℕ) where
-  pub no_more : first_breach n table [] ≡ Done 0
+  pub no_more : first_breach n table [] ≡ Ok 0
   unfolding first_breach
-  no_more = first_none (Done 0)
+  no_more = first_none (Ok 0)
 
   -- the first law of a list, kept or broken
   pub first_kept : (law : Law) (more : List Law) → refuses (law_reply n table law) ≡ false → first_breach n table (law ∷ more) ≡ first_breach n table more
   unfolding first_breach
-  first_kept law more e = first_next (law_reply n table law) (map (law_reply n table) more) (Done 0) e
+  first_kept law more e = first_next (law_reply n table law) (map (law_reply n table) more) (Ok 0) e
 
-  pub first_broken : (law : Law) (more : List Law) {cause : Cause} {p : ℕ} → law_reply n table law ≡ Refused cause p → first_breach n table (law ∷ more) ≡ Refused cause p
+  pub first_broken : (law : Law) (more : List Law) {cause : Cause} {p : ℕ} → law_reply n table law ≡ refusal cause p → first_breach n table (law ∷ more) ≡ refusal cause p
   unfolding first_breach
-  first_broken law more e = first_here (law_reply n table law) (map (law_reply n table) more) (Done 0) (ap refuses e) ∙ e
+  first_broken law more e = first_here (law_reply n table law) (map (law_reply n table) more) (Ok 0) (ap refuses e) ∙ e
 
   two_lists : (xs ys : List Law) → first_breach n table (xs ++ ys) ≡ first_refusal (map (law_reply n table) xs) (first_breach n table ys)
   unfolding first_breach
-  two_lists xs ys = ap (λ (rs : List Reply). first_refusal rs (Done 0)) (map-append (law_reply n table) xs ys) ∙ first_front _ _ _
+  two_lists xs ys = ap (λ (rs : List Reply). first_refusal rs (Ok 0)) (map-append (law_reply n table) xs ys) ∙ first_front _ _ _
 
   -- the first breach of two lists is that of the first, unless it has none
   pub first_of : (xs ys : List Law) → refuses (first_breach n table xs) ≡ true → first_breach n table (xs ++ ys) ≡ first_breach n table xs
@@ -141,10 +140,6 @@ module _
   pub kept : refuses (law_reply n table law) ≡ false → Loop n table r f (i + 1) m more
   kept e = passes l h (ap refuses (ap (first_breach n table) one ∙ first_kept n table law [] e ∙ no_more n table))
 
-  pub broken : {cause : Cause} {p : ℕ} → law_reply n table law ≡ Refused cause p → r ≡ Refused cause p
-  broken {cause} {p} e = let q : first_breach n table (f i) ≡ Refused cause p = ap (first_breach n table) one ∙ first_broken n table law [] e in
+  pub broken : {cause : Cause} {p : ℕ} → law_reply n table law ≡ refusal cause p → r ≡ refusal cause p
+  broken {cause} {p} e = let q : first_breach n table (f i) ≡ refusal cause p = ap (first_breach n table) one ∙ first_broken n table law [] e in
       stops l h (ap refuses q) ∙ q
-
--- a breach found at the place that the law names
-pub told : {r : Reply} {cause : Cause} {p q : ℕ} → p ≡ q → r ≡ Refused cause q → Refused cause p ≡ r
-told e f = cc

@@ -10,16 +10,16 @@ use native.Mathlib.Omega.{arith}
 use native.Mathlib.Decide.{ℕ_discrete, dec_lt}
 use lib.Dec.{ltb}
 use borrow.Author.Tests.{lt-ltb, ltb-true}
+use Rattle.std.specs.Prelude.{Ok}
 use Rattle.kinds.specs.Kinds.{meet_at}
 use Rattle.kinds.specs.Sizes.{AllKinds}
 use Rattle.kinds.proofs.Offset.{offset_lt}
 use Rattle.replies.specs.declared.Cause.TheVariants.{LawBroken}
-use Rattle.replies.specs.declared.Reply.TheVariants.{Done, Refused}
-use Rattle.replies.specs.Replies.{refuses}
+use Rattle.replies.specs.Replies.{refuses, refusal}
 use Rattle.tables.specs.Check.{Law, law_reply, for_each, entries, singles, pairs, triples, first_breach}
 use Rattle.tables.specs.Triples.{EarlierHold, every_triple, to_look_at, triples_meant, Before, FirstBroken}
 use Rattle.tables.proofs.Scan.{begins, begins_at, opens, stops, equal, unequal, first_kept, first_broken, first_of, second_of}
-use Rattle.tables.proofs.Lawfulness.{Kept, passes_kept, nothing, kept_if, each_make, each_use, kept_entries, singles_say, pairs_say, triples_say}
+use Rattle.tables.proofs.Lawfulness.{Kept, passes_kept, nothing, kept_if, each_make, each_use, kept_entries, singles_say, pairs_say, triples_say, kept_passes}
 
 -- what the test says of a triple
 pub tells : (i j k : ℕ) → 1 < i → 1 < j → 1 < k → i < k → to_look_at i j k ≡ true
@@ -100,7 +100,10 @@ sooner d (Before.by_first h) = Before.by_first (omega arith)
 sooner d (Before.by_second e h) = Before.by_first (omega arith)
 sooner d (Before.by_third e q h) = Before.by_first (omega arith)
 
-pub entries_kinds : (n : ℕ) (table : List ℕ) → first_breach n table (entries n) ≡ Done 0 → AllKinds n table
+pub kinds_entries : (n : ℕ) (table : List ℕ) → AllKinds n table → first_breach n table (entries n) ≡ Ok 0
+kinds_entries n table z = kept_passes n table (entries n) ((kept_entries n table).1 z)
+
+entries_kinds : (n : ℕ) (table : List ℕ) → first_breach n table (entries n) ≡ Ok 0 → AllKinds n table
 entries_kinds n table e = (kept_entries n table).0 (passes_kept n table (entries n) (ap refuses e))
 
 -- the laws before the triples, read off the check
@@ -183,13 +186,13 @@ module _ (n : ℕ) (table : List ℕ) (meant : ℕ → ℕ → ℕ → Bool) {i 
   earlier x y z hx hy hz b =
       kept_if n table (Law.group x y z) (meant x y z) (λ e. equal LawBroken (x * n + y) (F.earlier_keep x y z hx hy hz e b))
 
-  broken_here : first_breach n table (law i j k) ≡ Refused LawBroken (i * n + j)
+  broken_here : first_breach n table (law i j k) ≡ refusal LawBroken (i * n + j)
   unfolding law_reply
   broken_here =
       ap (λ (t : Bool). first_breach n table (cond t (Law.group i j k ∷ []) [])) F.is_meant
       ∙ first_broken n table (Law.group i j k) [] (unequal LawBroken (i * n + j) F.is_broken)
 
-  pub first_told : first_breach n table (triples_meant meant n) ≡ Refused LawBroken (i * n + j)
+  pub first_told : first_breach n table (triples_meant meant n) ≡ refusal LawBroken (i * n + j)
   unfolding triples_meant
   first_told =
       let h = F.kinds in

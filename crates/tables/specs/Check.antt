@@ -1,11 +1,10 @@
 -- 'Kind tables' and replies 2 and 3: each law with the reply to its breach, the order in which they are looked at, and the first breach.
 -- Assumes nothing.
-use Rattle.std.specs.Prelude.{List, [], ◌∷◌, ◌++◌, map, ℕ, zero, suc, ◌+◌, ◌*◌, eqb, ltb, get_or}
+use Rattle.std.specs.Prelude.{List, [], ◌∷◌, ◌++◌, map, ℕ, zero, suc, ◌+◌, ◌*◌, eqb, ltb, get_or, Ok}
 use Rattle.replies.specs.declared.Cause.TheVariants.{NoKind, LawBroken}
-use Rattle.replies.specs.declared.Reply.{Reply}
-use Rattle.replies.specs.declared.Reply.TheVariants.{Done}
-use Rattle.replies.specs.Replies.{unless, first_refusal}
+use Rattle.replies.specs.Replies.{unless, first_refusal, Reply}
 use Rattle.kinds.specs.Kinds.{meet_at}
+use Rattle.kinds.specs.declared.Table.{Table}
 
 pub data Law : Type 0 where
   -- the entry at p is a kind: no law of its own in 01, but looked at before them
@@ -56,7 +55,11 @@ in_order n = entries n ++ (singles n ++ (pairs n ++ triples n))
 
 -- the reply to the first law of the list that the table breaks; done where it breaks none
 unfoldable pub first_breach : ℕ → List ℕ → List Law → Reply
-first_breach n table list = first_refusal (map (law_reply n table) list) (Done 0)
+first_breach n table list = first_refusal (map (law_reply n table) list) (Ok 0)
 
 abbrev pub table_reply : ℕ → List ℕ → Reply
 table_reply n table = first_breach n table (in_order n)
+
+-- the reply to the first of some laws that a table breaks, where the laws are those of its number of kinds
+abbrev pub breach_of : Table → (ℕ → List Law) → Reply
+breach_of t laws = first_breach t.n t.entries.now (laws t.n)

@@ -1,15 +1,14 @@
 -- The triples that the search for a broken one looks at, and what the first broken one of some triples is. What a table is answered is stated over
 -- all triples (`table_reply` in Check.antt). That the first broken one is the same either way is proved in proofs/Triples.antt.
 -- Assumes nothing.
-use Rattle.std.specs.Prelude.{◌≡◌, ◌≢◌, Bool, true, cond, ◌&&◌, List, [], ◌∷◌, ℕ, ◌<◌, ltb}
-use Rattle.replies.specs.declared.Reply.TheVariants.{Done}
+use Rattle.std.specs.Prelude.{◌≡◌, ◌≢◌, Bool, true, cond, ◌&&◌, List, [], ◌∷◌, ℕ, ◌<◌, ltb, Ok}
 use Rattle.tables.specs.Check.{Law, for_each, entries, singles, pairs, first_breach}
 
 -- the laws that are looked at before the triples hold
 pub record EarlierHold (n : ℕ) (table : List ℕ) : Type 0 where
-  pub entries_hold : first_breach n table (entries n) ≡ Done 0
-  pub singles_hold : first_breach n table (singles n) ≡ Done 0
-  pub pairs_hold : first_breach n table (pairs n) ≡ Done 0
+  pub entries_hold : first_breach n table (entries n) ≡ Ok 0
+  pub singles_hold : first_breach n table (singles n) ≡ Ok 0
+  pub pairs_hold : first_breach n table (pairs n) ≡ Ok 0
 
 -- which triples are meant: all of them, or those "without 0 and 1 whose first is below its last"
 abbrev pub every_triple : ℕ → ℕ → ℕ → Bool

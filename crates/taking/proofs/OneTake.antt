@@ -3,9 +3,9 @@
 use mathlib.Core.Path.{◌≡◌, sym, ◌∙◌, ap}
 use mathlib.Core.List.{List, ◌++◌}
 use Prim.Native.Nat.{ℕ, ◌-◌}
+use Rattle.std.specs.Prelude.{Ok}
+use Rattle.replies.specs.Replies.{Reply, refusal}
 use Rattle.replies.specs.declared.Cause.TheVariants.{Clash}
-use Rattle.replies.specs.declared.Reply.{Reply}
-use Rattle.replies.specs.declared.Reply.TheVariants.{Done, Refused}
 use Rattle.replies.proofs.Laws.{not_both}
 use Rattle.meaning.specs.declared.RigJoint.{RigJoint}
 use Rattle.meaning.specs.Picture.{Fact}
@@ -61,9 +61,9 @@ take_one (refused e q s) (clashes d i c q' s') = absurd (not_both e d)
 take_one (refused e q s) (done d a q') = absurd (not_both e d)
 take_one (clashes d i c q s) (refused e q' s') = absurd (not_both e d)
 take_one {b} {p} (clashes d i c q s) (clashes d' j c' q' s') =
-    let e = clash_one (rig_of b) (taken b) (rig_facts p) c c' in (q ∙ ap (λ (k : ℕ). Refused Clash (fact_at p k)) e ∙ sym q', s ∙ sym s')
+    let e = clash_one (rig_of b) (taken b) (rig_facts p) c c' in (q ∙ ap (λ (k : ℕ). refusal Clash (fact_at p k)) e ∙ sym q', s ∙ sym s')
 take_one {b} {p} (clashes d i c q s) (done d' a q') = absurd (after_no_clash a (clash_no_picture (rig_of b) (taken b) (rig_facts p) c))
 take_one (done d a q) (refused e q' s') = absurd (not_both e d)
 take_one {b} {p} (done d a q) (clashes d' i c q' s') = absurd (after_no_clash a (clash_no_picture (rig_of b) (taken b) (rig_facts p) c))
 take_one {b} (done d a q) (done d' a' q') =
-    let e = after_one a a' in (q ∙ ap (λ (x : List ℕ). Done (class_count b - class_count x)) e ∙ sym q', e)
+    let e = after_one a a' in (q ∙ ap (λ (x : List ℕ). Ok (class_count b - class_count x)) e ∙ sym q', e)

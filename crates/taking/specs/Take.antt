@@ -1,10 +1,8 @@
 -- Take: replies 1, 4 to 9 and 11; all facts or none. What it may answer, and what the block then is, in the words of the meaning.
 -- Assumes nothing.
-use Rattle.std.specs.Prelude.{◌≡◌, true, List, [], ◌∷◌, ◌++◌, ℕ, ◌-◌}
+use Rattle.std.specs.Prelude.{◌≡◌, true, List, [], ◌∷◌, ◌++◌, ℕ, ◌-◌, Ok}
 use Rattle.replies.specs.declared.Cause.TheVariants.{Clash}
-use Rattle.replies.specs.declared.Reply.{Reply}
-use Rattle.replies.specs.declared.Reply.TheVariants.{Done, Refused}
-use Rattle.replies.specs.Replies.{refuses, first_refusal}
+use Rattle.replies.specs.Replies.{refuses, first_refusal, Reply, refusal}
 use Rattle.meaning.specs.declared.RigJoint.{RigJoint}
 use Rattle.meaning.specs.Picture.{Fact}
 use Rattle.meaning.specs.Rig.{FirstClash, SameMeaning}
@@ -29,7 +27,7 @@ pub record After (b : List ℕ) (facts : List (Fact RigJoint)) (after : List ℕ
 pub data Take (b p : List ℕ) (reply : Reply) (after : List ℕ) : Type 0 where
   refused : refuses (take_refusal b p) ≡ true → reply ≡ take_refusal b p → after ≡ b → Take b p reply after
   -- the place is the first byte of the first fact such that the taken facts and the packet's up to and including it have no picture
-  clashes : take_refusal b p ≡ Done 0 → (i : ℕ) → FirstClash (rig_of b) (taken b) (rig_facts p) i → reply ≡ Refused Clash (fact_at p i) → after ≡ b →
+  clashes : take_refusal b p ≡ Ok 0 → (i : ℕ) → FirstClash (rig_of b) (taken b) (rig_facts p) i → reply ≡ refusal Clash (fact_at p i) → after ≡ b →
       Take b p reply after
   -- some picture satisfies the taken facts and the packet's, the block's own; third is the joins: classes before less classes after
-  done : take_refusal b p ≡ Done 0 → After b (rig_facts p) after → reply ≡ Done (class_count b - class_count after) → Take b p reply after
+  done : take_refusal b p ≡ Ok 0 → After b (rig_facts p) after → reply ≡ Ok (class_count b - class_count after) → Take b p reply after

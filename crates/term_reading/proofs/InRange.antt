@@ -8,10 +8,9 @@ use native.Mathlib.Omega.{arith}
 use native.Mathlib.Nat.{mod-eq_of_lt}
 use lib.ListN.{length}
 use borrow.Author.Tests.{ltb-true}
+use Rattle.std.specs.Prelude.{Ok}
 use Rattle.replies.specs.declared.Cause.TheVariants.{OutOfRange}
-use Rattle.replies.specs.declared.Reply.{Reply}
-use Rattle.replies.specs.declared.Reply.TheVariants.{Done, Refused}
-use Rattle.replies.specs.Replies.{refuses}
+use Rattle.replies.specs.Replies.{refuses, Reply, refusal}
 use Rattle.meaning.specs.Picture.{Fact, rename}
 use Rattle.meaning.specs.Picture.Fact.{has_kind, same, leads}
 use Rattle.meaning.specs.Form.{rig_joint}
@@ -43,27 +42,27 @@ module _ (n v : ℕ) where
   told offset [] e = tt
   told offset (k ∷ ks) e = by_token (in_range n v k) _ refl e (λ q. told (offset + length (spell k)) ks q)
     where
-      by_token : (t : Bool) (r : Reply) → in_range n v k ≡ t → refuses (cond t r (Refused OutOfRange offset)) ≡ false →
+      by_token : (t : Bool) (r : Reply) → in_range n v k ≡ t → refuses (cond t r (refusal OutOfRange offset)) ≡ false →
           (refuses r ≡ false → AllIn ks) → (in_range n v k ≡ true) × AllIn ks
       by_token true r q h next = (q, next h)
       by_token false r q h next = absurd (true≢false h)
 
-  pub tells : (offset : ℕ) (ks : List Token) → AllIn ks → range_reply n v offset ks ≡ Done 0
+  pub tells : (offset : ℕ) (ks : List Token) → AllIn ks → range_reply n v offset ks ≡ Ok 0
   unfolding range_reply
   tells offset [] a = refl
   tells offset (k ∷ ks) a = rw a.0 (tells (offset + length (spell k)) ks a.1)
 
   -- whatever holds of "done" and of a number told out of range holds of the reply
-  pub range_holds : (Of : Reply → Type 0) → Of (Done 0) → ((p : ℕ) → Of (Refused OutOfRange p)) → (offset : ℕ) (ks : List Token) → Of (range_reply n v offset ks)
+  pub range_holds : (Of : Reply → Type 0) → Of (Ok 0) → ((p : ℕ) → Of (refusal OutOfRange p)) → (offset : ℕ) (ks : List Token) → Of (range_reply n v offset ks)
   unfolding range_reply
   range_holds Of fine wrong offset [] = fine
   range_holds Of fine wrong offset (k ∷ ks) = chosen (in_range n v k) _ (range_holds Of fine wrong (offset + length (spell k)) ks)
     where
-      chosen : (t : Bool) (r : Reply) → Of r → Of (cond t r (Refused OutOfRange offset))
+      chosen : (t : Bool) (r : Reply) → Of r → Of (cond t r (refusal OutOfRange offset))
       chosen true r h = h
       chosen false r h = wrong offset
 
-  pub range_done : (offset : ℕ) (ks : List Token) → refuses (range_reply n v offset ks) ≡ false → range_reply n v offset ks ≡ Done 0
+  pub range_done : (offset : ℕ) (ks : List Token) → refuses (range_reply n v offset ks) ≡ false → range_reply n v offset ks ≡ Ok 0
   range_done offset ks e = tells offset ks (told offset ks e)
 
   -- a term whose tokens are in range has all its facts in range
@@ -95,7 +94,7 @@ module _ (n v : ℕ) where
           in_range_append n v (term_facts t) (argument_facts args j) inner.1 (argument_facts_lem args j h others.1),
         )
 
-  pub facts_in_range : (t : Term) → range_reply n v 0 (term_tokens t) ≡ Done 0 → AllInRange n v (term_facts t)
+  pub facts_in_range : (t : Term) → range_reply n v 0 (term_tokens t) ≡ Ok 0 → AllInRange n v (term_facts t)
   facts_in_range t e = (term_facts_lem t (told 0 (term_tokens t) (ap refuses e))).1
 
   -- facts in range are made of bytes, where there are no more kinds and joints than bytes

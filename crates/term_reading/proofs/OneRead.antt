@@ -9,11 +9,10 @@ use Prim.Native.Nat.{ℕ, ◌≤◌}
 use native.Mathlib.Omega.{arith}
 use lib.Dec.{leb}
 use lib.ListN.{length, drop}
+use Rattle.std.specs.Prelude.{Ok}
 use Rattle.replies.specs.declared.Cause.{Cause}
 use Rattle.replies.specs.declared.Cause.TheVariants.{TooManyFacts, ShortOutput, NoTerm as no_term_cause}
-use Rattle.replies.specs.declared.Reply.{Reply}
-use Rattle.replies.specs.declared.Reply.TheVariants.{Done, Refused}
-use Rattle.replies.specs.Replies.{cause_number, number, unless}
+use Rattle.replies.specs.Replies.{cause_number, number, unless, Reply, refusal}
 use Rattle.replies.proofs.Laws.{not_both, first_holds}
 use Rattle.joints.specs.Layout.{kinds_of, joints_of}
 use Rattle.outputs.specs.Output.{output_reply}
@@ -34,7 +33,7 @@ read_term_one b text out (refused e q k) (no_term d p u q' k') = absurd (not_bot
 read_term_one b text out (refused e q k) (term d t u q' k') = absurd (not_both e d)
 read_term_one b text out (no_term d p u q k) (refused e q' k') = absurd (not_both e d)
 read_term_one b text out (no_term d p u q k) (no_term d' p' u' q' k') =
-    (q ∙ ap (Refused no_term_cause) (no_term_one text p p' u u') ∙ sym q', k ∙ sym k')
+    (q ∙ ap (refusal no_term_cause) (no_term_one text p p' u u') ∙ sym q', k ∙ sym k')
 read_term_one b text out (no_term d p u q k) (term d' t u' q' k') = absurd (u.unread t u')
 read_term_one b text out (term d t u q k) (refused e q' k') = absurd (not_both e d)
 read_term_one b text out (term d t u q k) (no_term d' p u' q' k') = absurd (u'.unread t u)
@@ -50,25 +49,25 @@ module _ (b : List ℕ) (t : Term) (out : List ℕ) where
   packet = term_packet (joints_of b) t
 
   pub record Readable : Type 0 where
-    pub in_range : range_reply (kinds_of b) (joints_of b) 0 (term_tokens t) ≡ Done 0
+    pub in_range : range_reply (kinds_of b) (joints_of b) 0 (term_tokens t) ≡ Ok 0
     pub few : length (term_facts t) ≤ most_facts
     pub room : length packet ≤ length out
 
-  term_done : Readable → term_reply (kinds_of b) (joints_of b) t out ≡ Done (length packet)
+  term_done : Readable → term_reply (kinds_of b) (joints_of b) t out ≡ Ok (length packet)
   term_done h = goes_out (kinds_of b) (joints_of b) t out h.in_range h.few ∙ has_room packet out h.room
 
   term_put : Readable → term_output (kinds_of b) (joints_of b) t out ≡ packet ++ drop (length packet) out
   term_put h = sym (is_put (kinds_of b) (joints_of b) t out h.in_range h.few) ∙ sym (all_put packet out h.room)
 
 -- "Every such text is read"
-module _ (b text out : List ℕ) (passes : read_term_refusal b text ≡ Done 0) where
+module _ (b text out : List ℕ) (passes : read_term_refusal b text ≡ Ok 0) where
   module _ (t : Term) (reading : Reading text t) (readable : Readable b t out) where
     pub reads :
-        ReadTerm b text out (Done (length (term_packet (joints_of b) t))) (term_packet (joints_of b) t ++ drop (length (term_packet (joints_of b) t)) out)
+        ReadTerm b text out (Ok (length (term_packet (joints_of b) t))) (term_packet (joints_of b) t ++ drop (length (term_packet (joints_of b) t)) out)
     reads = term passes t reading (sym (term_done b t out readable)) (sym (term_put b t out readable))
 
     pub reads_only : {r : Reply} {x : List ℕ} → ReadTerm b text out r x →
-        (r ≡ Done (length (term_packet (joints_of b) t))) × (x ≡ term_packet (joints_of b) t ++ drop (length (term_packet (joints_of b) t)) out)
+        (r ≡ Ok (length (term_packet (joints_of b) t))) × (x ≡ term_packet (joints_of b) t ++ drop (length (term_packet (joints_of b) t)) out)
     reads_only read = read_term_one b text out read reads
 
 -- reply 20 is given for no term
@@ -93,7 +92,7 @@ term_not b t out =
     (first_holds NotTwenty _ _ (unless_not (leb (length bytes) (length out)) ShortOutput (λ e. omega (arith, e)), tt) (λ e. omega (arith, e)))
 
 -- given exactly where the text is no term, when the call is not refused before
-pub refused_20_exactly : (b text out : List ℕ) {r : Reply} {x : List ℕ} → read_term_refusal b text ≡ Done 0 → ReadTerm b text out r x →
+pub refused_20_exactly : (b text out : List ℕ) {r : Reply} {x : List ℕ} → read_term_refusal b text ≡ Ok 0 → ReadTerm b text out r x →
     (number r ≡ 20) ↔ ((t : Term) → Reading text t → ⊥)
 refused_20_exactly b text out d (refused e q k) = absurd (not_both e d)
 refused_20_exactly b text out d (no_term d' p u q k) = (λ _. u.unread, λ _. ap number q)

@@ -9,9 +9,8 @@ use Prim.Native.Nat.{ℕ, ◌^◌, ◌<◌, ◌≤◌}
 use native.Mathlib.Omega.{arith}
 use native.Mathlib.Decide.{dec_lt}
 use lib.ListN.{length}
-use Rattle.replies.specs.declared.Reply.{Reply}
-use Rattle.replies.specs.declared.Reply.TheVariants.{Done}
-use Rattle.replies.specs.Replies.{refuses, third}
+use Rattle.std.specs.Prelude.{Ok}
+use Rattle.replies.specs.Replies.{refuses, third, Reply}
 use Rattle.replies.proofs.Laws.{refusal_third}
 use Rattle.packets.proofs.FactsPacket.{size_is}
 use Rattle.joints.specs.Layout.{kinds_of, joints_of}
@@ -34,10 +33,10 @@ module _ (b : List ℕ) (t : Term) (out : List ℕ) where
   out_of_range : refuses ranged ≡ true → third (term_reply (kinds_of b) (joints_of b) t out) < 2 ^ 24
   out_of_range e = rw (range_refuses (kinds_of b) (joints_of b) t out refl e, refusal_third ranged e) (omega arith)
 
-  too_many : ranged ≡ Done 0 → most_facts < length (term_facts t) → third (term_reply (kinds_of b) (joints_of b) t out) < 2 ^ 24
+  too_many : ranged ≡ Ok 0 → most_facts < length (term_facts t) → third (term_reply (kinds_of b) (joints_of b) t out) < 2 ^ 24
   too_many e h = rw (many_refuses (kinds_of b) (joints_of b) t out e h) (omega arith)
 
-  few_enough : ranged ≡ Done 0 → length (term_facts t) ≤ most_facts → third (term_reply (kinds_of b) (joints_of b) t out) < 2 ^ 24
+  few_enough : ranged ≡ Ok 0 → length (term_facts t) ≤ most_facts → third (term_reply (kinds_of b) (joints_of b) t out) < 2 ^ 24
   few_enough e h =
       rw (goes_out (kinds_of b) (joints_of b) t out e h) (output_third packet out (omega (arith, size_is (joints_of b) (term_facts t))))
 

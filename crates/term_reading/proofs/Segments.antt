@@ -1,29 +1,29 @@
 -- Stretches of a text: a sign, a number, one stretch behind the other; and the first number out of range along them.
 -- Assumes nothing.
 use mathlib.Core.Path.{◌≡◌, refl, sym, ap, ◌∙◌}
-use mathlib.Core.Logic.{◌≢◌, by_cases}
-use mathlib.Core.Bool.{Bool, true, false, cond}
+use mathlib.Core.Logic.{by_cases}
+use mathlib.Core.Bool.{Bool, true, false, cond, true≢false}
 use mathlib.Core.List.{List, [], ◌∷◌, ◌++◌, append-nil, append_assoc}
 use Prim.Native.Nat.{ℕ, zero, suc, ◌+◌, ◌<◌, ◌≤◌}
 use native.Mathlib.Omega.{arith}
 use native.Mathlib.Decide.{dec_lt}
 use native.Mathlib.Numerals.{add-one}
 use native.Mathlib.Nat.{add-zero}
-use lib.Dec.{eqb, ltb}
+use lib.Dec.{ltb}
 use lib.ListN.{length, get_or, take, length-append, get_or-eq_default}
 use lib.Seq.{take-suc}
-use borrow.Author.Tests.{eq-eqb, ne_eqb, lt-ltb, le-ltb}
+use borrow.Author.Tests.{lt-ltb, le-ltb}
+use Rattle.std.specs.Prelude.{Option, Some, None, Ok, Err}
+use Rattle.std.specs.Option.{is_some}
 use Rattle.replies.specs.declared.Cause.TheVariants.{OutOfRange}
-use Rattle.replies.specs.declared.Reply.{Reply}
-use Rattle.replies.specs.declared.Reply.TheVariants.{Done, Refused}
-use Rattle.replies.specs.Replies.{unless, first_refusal}
+use Rattle.replies.specs.Replies.{unless, first_refusal, Reply, refusal}
 use Rattle.terms.specs.Term.{Token, spell, text_of}
 use Rattle.terms.specs.Term.Token.{sign, link}
 use Rattle.terms.specs.Machine.{here, end}
 use Rattle.terms.proofs.Running.{text_append}
 use Rattle.term_reading.specs.declared.Front.{Front}
 use Rattle.term_reading.specs.Range.{in_range, range_reply}
-use Rattle.term_reading.specs.Reading.{Segment, wrong_reply, nowhere, NumberRead}
+use Rattle.term_reading.specs.Reading.{Segment, wrong_reply, NumberRead}
 
 -- a byte that is not the end stands within the text, and the beginning with it is longer by it
 module _ (text : List ℕ) (p b : ℕ) (stands : here text p ≡ b) (byte : b < 256) where
@@ -45,8 +45,8 @@ passed f = record { at = f.at + 1; facts = f.facts; wrong = f.wrong }
 -- the first refusal of three, taken in two ways
 first_first : (a b c : Reply) → first_refusal (first_refusal (a ∷ []) b ∷ []) c ≡ first_refusal (a ∷ []) (first_refusal (b ∷ []) c)
 unfolding first_refusal
-first_first (Done t) b c = refl
-first_first (Refused x p) b c = refl
+first_first (Ok t) b c = refl
+first_first (Err r) b c = refl
 
 module _ (n v : ℕ) where
   -- numbers out of range along tokens that follow one another
@@ -63,8 +63,8 @@ module _ (n v : ℕ) where
       by_range : (b : Bool) →
           range_reply n v (offset + length (spell k)) (xs ++ ys) ≡
           first_refusal (range_reply n v (offset + length (spell k)) xs ∷ []) (range_reply n v (offset + length (spell k) + length (text_of xs)) ys) →
-          cond b (range_reply n v (offset + length (spell k)) (xs ++ ys)) (Refused OutOfRange offset) ≡
-          first_refusal (cond b (range_reply n v (offset + length (spell k)) xs) (Refused OutOfRange offset) ∷ [])
+          cond b (range_reply n v (offset + length (spell k)) (xs ++ ys)) (refusal OutOfRange offset) ≡
+          first_refusal (cond b (range_reply n v (offset + length (spell k)) xs) (refusal OutOfRange offset) ∷ [])
           (range_reply n v (offset + length (spell k ++ text_of xs)) ys)
       by_range true rest =
           rest ∙ ap (λ (o : ℕ). first_refusal (range_reply n v (offset + length (spell k)) xs ∷ []) (range_reply n v o ys)) further
@@ -75,12 +75,9 @@ module _ (n v : ℕ) where
     unfolding text_of range_reply first_refusal
     no_tokens f h = record { spelled = sym (append-nil (take f.at text)); ends = sym (add-zero f.at); inside = h; range = none f.wrong }
       where
-        by_test : (w : ℕ) (b : Bool) → cond b (Done 0) (Refused OutOfRange w) ≡ first_refusal (cond b (Done 0) (Refused OutOfRange w) ∷ []) (Done 0)
-        by_test w true = refl
-        by_test w false = refl
-
-        none : (w : ℕ) → wrong_reply w ≡ first_refusal (wrong_reply w ∷ []) (Done 0)
-        none w = by_test w (eqb w nowhere)
+        none : (w : Option ℕ) → wrong_reply w ≡ first_refusal (wrong_reply w ∷ []) (Ok 0)
+        none None = refl
+        none (Some p) = refl
 
     -- one stretch behind the other
     pub then : {a b c : Front} {xs ys : List Token} → Segment text n v a xs b → Segment text n v b ys c → Segment text n v a (xs ++ ys) c
@@ -110,7 +107,7 @@ module _ (n v : ℕ) where
         }
 
     -- a number, which stands for one token
-    pub a_number : (f : Front) (k : Token) (x limit past wrong facts : ℕ) → NumberRead text f.at x past → spell k ≡ spell (link x) →
+    pub a_number : (f : Front) (k : Token) (x limit past facts : ℕ) (wrong : Option ℕ) → NumberRead text f.at x past → spell k ≡ spell (link x) →
         in_range n v k ≡ ltb x limit →
         wrong_reply wrong ≡ first_refusal (wrong_reply f.wrong ∷ []) (unless (ltb x limit) OutOfRange f.at) →
         Segment text n v f (k ∷ []) (record { at = past; facts = facts; wrong = wrong })
@@ -124,24 +121,30 @@ module _ (n v : ℕ) where
         }
 
 -- a byte that stands within the text is the same, whatever is given behind its end
-pub stands : (text : List ℕ) (p : ℕ) → p < length text → get_or text p 0 ≡ here text p
-stands [] p h = absurd (no_less h)
+pub same_byte : (text : List ℕ) (p : ℕ) → p < length text → get_or text p 0 ≡ here text p
+same_byte [] p h = absurd (no_less h)
   where
     no_less : p < 0 → ⊥
     no_less l = omega (arith, l)
-stands (b ∷ text) zero h = refl
-stands (b ∷ text) (suc p) h = stands text p (omega (arith, h))
+same_byte (b ∷ text) zero h = refl
+same_byte (b ∷ text) (suc p) h = same_byte text p (omega (arith, h))
 
--- the number for the first one out of range, with the next number
-pub wrong_stays : (wrong : ℕ) (next : Reply) → wrong ≢ nowhere → wrong_reply wrong ≡ first_refusal (wrong_reply wrong ∷ []) next
+-- the first number out of range, with the next number in range
+pub still_first : (wrong : Option ℕ) (x limit p : ℕ) → x < limit →
+    wrong_reply wrong ≡ first_refusal (wrong_reply wrong ∷ []) (unless (ltb x limit) OutOfRange p)
 unfolding first_refusal
-wrong_stays wrong next h = rw (ne_eqb wrong nowhere h)
+still_first (Some q) x limit p h = refl
+still_first None x limit p h = rw (lt-ltb x limit h)
 
-module _ (wrong x limit p : ℕ) (nothing : wrong ≡ nowhere) where
-  pub wrong_none : x < limit → wrong_reply nowhere ≡ first_refusal (wrong_reply wrong ∷ []) (unless (ltb x limit) OutOfRange p)
-  unfolding first_refusal
-  wrong_none h = rw (eq-eqb wrong nowhere nothing, lt-ltb x limit h)
+-- with one before it
+pub earlier_first : (wrong : Option ℕ) (next : Reply) → is_some wrong ≡ true → wrong_reply wrong ≡ first_refusal (wrong_reply wrong ∷ []) next
+unfolding first_refusal
+earlier_first (Some q) next e = refl
+earlier_first None next e = absurd (true≢false (sym e))
 
-  pub wrong_here : limit ≤ x → p < nowhere → wrong_reply p ≡ first_refusal (wrong_reply wrong ∷ []) (unless (ltb x limit) OutOfRange p)
-  unfolding first_refusal
-  wrong_here h small = rw (eq-eqb wrong nowhere nothing, le-ltb x limit h, ne_eqb p nowhere (λ e. omega (arith, small, e)))
+-- and with the next number out of range and none before it
+pub now_first : (wrong : Option ℕ) (x limit p : ℕ) → limit ≤ x → is_some wrong ≡ false →
+    refusal OutOfRange p ≡ first_refusal (wrong_reply wrong ∷ []) (unless (ltb x limit) OutOfRange p)
+unfolding first_refusal
+now_first (Some q) x limit p h e = absurd (true≢false e)
+now_first None x limit p h e = rw (le-ltb x limit h)

@@ -8,6 +8,7 @@ use native.Mathlib.Omega.{arith}
 use native.Mathlib.Nat.{add-zero}
 use native.Mathlib.Numerals.{add-one}
 use lib.ListN.{length, length-append}
+use Rattle.std.specs.Prelude.{Option, Some, None, Result, Ok, Err}
 use Rattle.meaning.specs.Picture.{Fact}
 use Rattle.decimals.specs.Decimal.{decimal}
 use Rattle.terms.specs.Term.{Written, Token, opening, closing, comma, equals, greater}
@@ -24,10 +25,7 @@ use Rattle.terms.specs.Machine.Phase.{digits}
 use Rattle.terms.specs.Machine.State.{live}
 use Rattle.terms.proofs.Running.{no_colon, kind_behind, no_bracket}
 use Rattle.term_reading.specs.declared.Front.{Front}
-use Rattle.term_reading.specs.declared.Lead.{Lead}
-use Rattle.term_reading.specs.declared.Lead.TheVariants as lead_case
-use Rattle.term_reading.specs.declared.Step.{Step}
-use Rattle.term_reading.specs.declared.Step.TheVariants as step_answer
+use Rattle.term_reading.specs.declared.Stuck.{Stuck}
 use Rattle.term_reading.specs.Reading.{Sound, Segment, Said, lead_facts, Awaited, ArgumentsAwaited, NumberedRead, joint_tokens, KindEnded, KindRead}
 use Rattle.term_reading.specs.Reading.{HeadRead, TermRead, ArgumentsRead, TermStep, ArgumentsStep}
 use Rattle.term_reading.proofs.Segments.{passed, then, a_sign}
@@ -45,18 +43,18 @@ module _ {text : List ℕ} {n v : ℕ} {from : Front} where
 
 -- the head of a term: its joint, the fact that leads to it, and its kind
 module _
-    (text : List ℕ) (n v : ℕ) (lead : Lead) (from : Front) (s : List ℕ) (j : ℕ) (behind : Front)
+    (text : List ℕ) (n v : ℕ) (lead : Option (ℕ × ℕ)) (from : Front) (s : List ℕ) (j : ℕ) (behind : Front)
     (joint_read : NumberedRead text n v joint_tokens from j behind)
   where
     pub led_sound : (facts : ℕ) {t : List ℕ} → Sound text from → Said (lead_facts lead j) behind.facts s facts t → Sound text (with_facts behind facts)
     unfolding text_of
     led_sound facts sound said =
         let segment = joint_read.segment in
-        record { inside = segment.inside; few = omega (arith, sound.few, segment.ends, said.counted, joint_read.facts, one_lead lead) }
+        record { long = sound.long; inside = segment.inside; few = omega (arith, sound.few, segment.ends, said.counted, joint_read.facts, one_lead lead) }
       where
-        one_lead : (x : Lead) → length (lead_facts x j) ≤ 1
-        one_lead lead_case.Outermost = omega arith
-        one_lead (lead_case.Argument a l) = omega arith
+        one_lead : (x : Option (ℕ × ℕ)) → length (lead_facts x j) ≤ 1
+        one_lead None = omega arith
+        one_lead (Some x) = omega arith
 
     module _
         (digits_end :
@@ -88,7 +86,7 @@ module _
 
 -- a term, from its head
 module _
-    (text : List ℕ) (n v around : ℕ) (lead : Lead) (from : Front) (s : List ℕ) (j : ℕ) (behind : Front) (t : List ℕ)
+    (text : List ℕ) (n v around : ℕ) (lead : Option (ℕ × ℕ)) (from : Front) (s : List ℕ) (j : ℕ) (behind : Front) (t : List ℕ)
     (head : HeadRead text n v lead from s j behind t)
   where
     no_level : around < deepest → around + 0 ≡ deepest → ⊥
@@ -139,7 +137,7 @@ module _
 -- one argument of joint j, and what stands behind it
 module _
     (text : List ℕ) (n v around j : ℕ) (front : Front) (s : List ℕ) (l : ℕ) (inner : Front) (link_read : NumberedRead text n v link_tokens front l inner)
-    (end : Front) (t : List ℕ) (term_read : TermRead text n v (suc around) (lead_case.Argument j l) inner s end t)
+    (end : Front) (t : List ℕ) (term_read : TermRead text n v (suc around) (Some (j, l)) inner s end t)
   where
     argument_segment : Segment text n v front (link_tokens l ++ term_tokens term_read.t) end
     argument_segment = then n v text link_read.segment term_read.segment
@@ -147,14 +145,14 @@ module _
     argument_fits : (levels : ℕ) → around + suc levels ≡ deepest → Fits term_read.t levels
     argument_fits levels e = term_read.fits levels (let z : suc around + levels ≡ deepest = omega (arith, e) in z)
 
-    argument_said : Said (lead_facts (lead_case.Argument j l) (joint_of term_read.t) ++ term_facts term_read.t) front.facts s end.facts t
+    argument_said : Said (lead_facts (Some (j, l)) (joint_of term_read.t) ++ term_facts term_read.t) front.facts s end.facts t
     argument_said =
-        subst (λ (k : ℕ). Said (lead_facts (lead_case.Argument j l) (joint_of term_read.t) ++ term_facts term_read.t) k s end.facts t)
+        subst (λ (k : ℕ). Said (lead_facts (Some (j, l)) (joint_of term_read.t) ++ term_facts term_read.t) k s end.facts t)
         link_read.facts term_read.said
 
     passed_sound : (b : ℕ) → here text end.at ≡ b → b < 256 → Sound text (passed end)
     passed_sound b h small =
-        record { inside = (a_sign n v text end b h small).inside; few = omega (arith, term_read.sound.few) }
+        record { long = term_read.sound.long; inside = (a_sign n v text end b h small).inside; few = omega (arith, term_read.sound.few) }
 
     -- the last one
     last_read : here text end.at ≡ closing → ArgumentsRead text n v around j front s (passed end) t
@@ -197,13 +195,12 @@ link_long l = omega (arith, length-append (decimal l) (equals ∷ greater ∷ []
 pub record Going (text : List ℕ) (n v around j : ℕ) (from : Front) (s : List ℕ) (front : Front) (t : List ℕ) : Type 0 where
   pub sound : Sound text front
   pub forward : from.at ≤ front.at
-  pub size : length t ≡ length s
   pub awaited : ArgumentsAwaited text around front.at
   pub whole : (end : Front) (u : List ℕ) → ArgumentsRead text n v around j front t end u → ArgumentsRead text n v around j from s end u
 
 pub begins : {text : List ℕ} {n v around j : ℕ} {from : Front} {s : List ℕ} → Sound text from → ArgumentsAwaited text around from.at →
     Going text n v around j from s from s
-begins sound awaited = record { sound = sound; forward = omega arith; size = refl; awaited = awaited; whole = λ end u r. r }
+begins sound awaited = record { sound = sound; forward = omega arith; awaited = awaited; whole = λ end u r. r }
 
 module _
     {text : List ℕ} {n v around j : ℕ} {from : Front} {s : List ℕ} {front : Front} {t : List ℕ} (g : Going text n v around j from s front t)
@@ -218,7 +215,7 @@ module _
     pub inner_nearer : length text - inner.at < length text - from.at
     inner_nearer = omega (arith, link_long l, g.forward, link_read.segment.ends, link_read.segment.inside)
 
-    module _ {end : Front} {u : List ℕ} (term_read : TermRead text n v (suc around) (lead_case.Argument j l) inner t end u) where
+    module _ {end : Front} {u : List ℕ} (term_read : TermRead text n v (suc around) (Some (j, l)) inner t end u) where
       pub next_nearer : {next : Front} → next ≡ passed end → length text - next.at < length text - front.at
       next_nearer {next = next} e =
           omega (arith, link_long l, link_read.segment.ends, term_read.segment.ends, link_read.segment.inside, ap (λ (f : Front). f.at) e)
@@ -228,7 +225,6 @@ module _
           record {
             sound = passed_sound text n v around j front t l inner link_read end u term_read comma h (omega arith);
             forward = omega (arith, g.forward, link_read.segment.ends, term_read.segment.ends);
-            size = term_read.said.size ∙ g.size;
             awaited =
                 next_awaited text around front.at g.awaited l inner.at link_read.short (spans link_read.segment)
                 term_read.t end.at term_read.sound.inside term_read.fits (spans term_read.segment) term_read.ended h;
@@ -250,21 +246,21 @@ module _
 
 -- one level deeper, as the code counts it
 pub deeper : {text : List ℕ} {n v around j l : ℕ} {inner : Front} {t : List ℕ} {end : Front} {u : List ℕ} →
-    TermRead text n v (around + 1) (lead_case.Argument j l) inner t end u → TermRead text n v (suc around) (lead_case.Argument j l) inner t end u
+    TermRead text n v (around + 1) (Some (j, l)) inner t end u → TermRead text n v (suc around) (Some (j, l)) inner t end u
 deeper {text = text} {n = n} {v = v} {around = around} {j = j} {l = l} {inner = inner} {t = t} {end = end} {u = u} r =
-    subst (λ (k : ℕ). TermRead text n v k (lead_case.Argument j l) inner t end u) (add-one around) r
+    subst (λ (k : ℕ). TermRead text n v k (Some (j, l)) inner t end u) (add-one around) r
 
 pub awaited_deeper : {text : List ℕ} {around p : ℕ} → Awaited text (suc around) p → Awaited text (around + 1) p
 awaited_deeper {text = text} {around = around} {p = p} w = subst (λ (k : ℕ). Awaited text k p) (sym (add-one around)) w
 
 -- a term whose head is read, and a bracket behind it
 module _
-    {text : List ℕ} {n v around : ℕ} {lead : Lead} {from : Front} {s : List ℕ} {j : ℕ} {behind : Front} {t : List ℕ} (w : Awaited text around from.at)
+    {text : List ℕ} {n v around : ℕ} {lead : Option (ℕ × ℕ)} {from : Front} {s : List ℕ} {j : ℕ} {behind : Front} {t : List ℕ} (w : Awaited text around from.at)
     (head : HeadRead text n v lead from s j behind t) (h : here text behind.at ≡ opening) {next : Front} (e : next ≡ passed behind)
   where
     pub next_sound : Sound text next
     next_sound =
-        subst (Sound text) (sym e) (record { inside = (a_sign n v text behind opening h (omega arith)).inside; few = omega (arith, head.sound.few) })
+        subst (Sound text) (sym e) (record { long = head.sound.long; inside = (a_sign n v text behind opening h (omega arith)).inside; few = omega (arith, head.sound.few) })
 
     pub next_awaited_arguments : around ≢ 15 → ArgumentsAwaited text around next.at
     next_awaited_arguments d =
@@ -275,12 +271,12 @@ module _
     pub arguments_nearer : length text - next.at < length text - from.at
     arguments_nearer = omega (arith, head.segment.ends, next_sound.inside, ap (λ (f : Front). f.at) e)
 
-    pub term_step : (r : Step) (u : List ℕ) → ArgumentsStep text n v around j next t r u → TermStep text n v around lead from s r u
-    term_step (step_answer.Read end) u a =
+    pub term_step : (r : Result Front Stuck) (u : List ℕ) → ArgumentsStep text n v around j next t r u → TermStep text n v around lead from s r u
+    term_step (Ok end) u a =
         bracketed_read text n v around lead from s j behind t head w.shallow h (subst (λ (f : Front). ArgumentsRead text n v around j f t end u) e a)
-    term_step (step_answer.Stuck p) u a = (a.0, a.1 ∙ head.said.size)
+    term_step (Err stuck) u a = a
 
-pub too_deep : {text : List ℕ} {n v around : ℕ} {lead : Lead} {from : Front} {s : List ℕ} {j : ℕ} {behind : Front} {t : List ℕ} →
+pub too_deep : {text : List ℕ} {n v around : ℕ} {lead : Option (ℕ × ℕ)} {from : Front} {s : List ℕ} {j : ℕ} {behind : Front} {t : List ℕ} →
     Awaited text around from.at → HeadRead text n v lead from s j behind t → here text behind.at ≡ opening → around ≡ 15 → NoTerm text behind.at
 too_deep {text = text} {around = around} {from = from} {j = j} {behind = behind} w head h e =
     stuck_at_depth text around from.at w j head.written behind.at head.joint_short head.kind_short (spans head.segment) h

@@ -1,10 +1,8 @@
 -- Reading a rig typed as a term: replies 1, 4, 20, 21, 22 and 12; the packet of its facts, and the rest of the output unchanged.
 -- Assumes nothing.
-use Rattle.std.specs.Prelude.{◌≡◌, true, cond, List, [], ◌∷◌, map, ℕ, ◌^◌, leb, length}
+use Rattle.std.specs.Prelude.{◌≡◌, true, cond, List, [], ◌∷◌, map, ℕ, ◌^◌, leb, length, Ok}
 use Rattle.replies.specs.declared.Cause.TheVariants.{BadSize, NoTerm as no_term_cause, TooManyFacts}
-use Rattle.replies.specs.declared.Reply.{Reply}
-use Rattle.replies.specs.declared.Reply.TheVariants.{Done, Refused}
-use Rattle.replies.specs.Replies.{refuses, unless, first_refusal}
+use Rattle.replies.specs.Replies.{refuses, unless, first_refusal, Reply, refusal}
 use Rattle.meaning.specs.Picture.{rename}
 use Rattle.meaning.specs.Form.{rig_joint}
 use Rattle.packets.specs.FactsPacket.{facts_packet}
@@ -43,8 +41,8 @@ term_output n v t out = cond (refuses (term_reply n v t out)) out (output_after 
 -- the reply to reading the text, and the output afterwards
 pub data ReadTerm (b text out : List ℕ) (reply : Reply) (after : List ℕ) : Type 0 where
   refused : refuses (read_term_refusal b text) ≡ true → reply ≡ read_term_refusal b text → after ≡ out → ReadTerm b text out reply after
-  no_term : read_term_refusal b text ≡ Done 0 → (p : ℕ) → NoTerm text p → reply ≡ Refused no_term_cause p → after ≡ out →
+  no_term : read_term_refusal b text ≡ Ok 0 → (p : ℕ) → NoTerm text p → reply ≡ refusal no_term_cause p → after ≡ out →
       ReadTerm b text out reply after
-  term : read_term_refusal b text ≡ Done 0 → (t : Term) → Reading text t → reply ≡ term_reply (kinds_of b) (joints_of b) t out →
+  term : read_term_refusal b text ≡ Ok 0 → (t : Term) → Reading text t → reply ≡ term_reply (kinds_of b) (joints_of b) t out →
       after ≡ term_output (kinds_of b) (joints_of b) t out →
       ReadTerm b text out reply after

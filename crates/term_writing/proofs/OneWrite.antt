@@ -3,7 +3,7 @@
 use mathlib.Core.Path.{◌≡◌, sym, ◌∙◌}
 use mathlib.Core.List.{List}
 use Prim.Native.Nat.{ℕ}
-use Rattle.replies.specs.declared.Reply.{Reply}
+use Rattle.replies.specs.Replies.{Reply}
 use Rattle.replies.proofs.Laws.{not_both}
 use Rattle.term_writing.specs.WriteTerm.{WriteTerm}
 use Rattle.term_writing.specs.WriteTerm.WriteTerm.{refused, no_tree, tree}

@@ -23,23 +23,23 @@ use Rattle.term_writing.proofs.Visits.{one_marked, none_visited, link_visited, j
 
 -- a joint that is not marked has its 12 bytes
 pub link_room_lem :
-    (front l at : ℕ) (to seen : List ℕ) {c : ℕ} → l < 16 → c < length seen → Unmarked seen c → at + 12 * unmarked seen ≤ text_room →
+    (front l at : ℕ) (to : List ℕ) (seen : List Bool) {c : ℕ} → l < 16 → c < length seen → Unmarked seen c → at + 12 * unmarked seen ≤ text_room →
     length to ≡ text_room → Room (link_text front l) at to
 link_room_lem front l at to seen {c} small inside free room size = omega (arith, link_short front l (omega arith), one_marked seen c inside free)
 
 pub link_left :
-    {front l at next : ℕ} {to mid : List ℕ} (seen : List ℕ) → l < 16 → Put (link_text front l) at to mid next →
+    {front l at next : ℕ} {to mid : List ℕ} (seen : List Bool) → l < 16 → Put (link_text front l) at to mid next →
     at + 12 * unmarked seen ≤ text_room → next + 12 * unmarked seen ≤ text_room + link_room
 link_left {front} {l} seen small p room = omega (arith, link_short front l (omega arith), p.ends)
 
-module _ (seen : List ℕ) {j : ℕ} (inside : j < length seen) (free : Unmarked seen j) where
+module _ (seen : List Bool) {j : ℕ} (inside : j < length seen) (free : Unmarked seen j) where
   pub head_room :
       (s at : ℕ) (to : List ℕ) → j < 64 → s < 64 → at + 12 * unmarked seen ≤ text_room + link_room → length to ≡ text_room → Room (head_text j s) at to
   head_room s at to hj hs room size = omega (arith, head_short j s (omega arith) (omega arith), one_marked seen j inside free)
 
   pub head_left :
       {s at from : ℕ} {to mid : List ℕ} → j < 64 → s < 64 → Put (head_text j s) at to mid from →
-      from + 12 * unmarked (set seen j 1) + 6 ≤ at + 12 * unmarked seen
+      from + 12 * unmarked (set seen j true) + 6 ≤ at + 12 * unmarked seen
   head_left {s} hj hs p = omega (arith, head_short j s (omega arith) (omega arith), one_marked seen j inside free, p.ends)
 
 pub closing_short : (from at : ℕ) → length (closing_text from at) ≤ 1
@@ -70,13 +70,13 @@ four_unknown S j l e =
 
 module _ (S : Form) where
   pub unknown_told :
-      {c : ℕ} (front l n at : ℕ) (t : Term) (to seen : List ℕ) → c ≡ unknown →
+      {c : ℕ} (front l n at : ℕ) (t : Term) (to : List ℕ) (seen : List Bool) → c ≡ unknown →
       Told (argument_text front l c t) (Onward S c) n 0 at to to seen seen at
   unknown_told front l n at t to seen e =
       record { put = left_out (link_text front l ++ term_text t) at to e; visited = nothing_onward S seen e; room = omega arith }
 
   pub known_told :
-      (from : ℕ) {c l b below at front next end : ℕ} {to mid told seen after : List ℕ} → c ≢ unknown → l < 16 → suc b ≡ below →
+      (from : ℕ) {c l b below at front next end : ℕ} {to mid told : List ℕ} {seen after : List Bool} → c ≢ unknown → l < 16 → suc b ≡ below →
       front ≡ sign_before from at → Put (link_text front l) at to mid next →
       Told (term_text (term_from S (suc b) c)) (Walk S c) (suc b) link_room next mid told seen after end →
       Told (argument_text (sign_before from at) l c (term_from S below c)) (Onward S c) below 0 at to told seen after end
@@ -93,7 +93,7 @@ module _ (S : Form) where
     abbrev pub text_below : ℕ → List ℕ
     text_below k = arguments_text (link_terms S (λ c. term_from S below c) j 0 k)
 
-    pub none_told : (from : ℕ) (to seen : List ℕ) → Told (text_below 0) (Through S j 0) (suc below) 0 from to to seen seen from
+    pub none_told : (from : ℕ) (to : List ℕ) (seen : List Bool) → Told (text_below 0) (Through S j 0) (suc below) 0 from to to seen seen from
     none_told from to seen =
         record {
           put = put_as (no_arguments S (λ c. term_from S below c) j) (none_put from to);
@@ -102,41 +102,47 @@ module _ (S : Form) where
         }
 
     pub more_told :
-        {k l c from at end : ℕ} {to mid told seen met after : List ℕ} → k < 16 → l ≡ k → c ≡ S.link j l →
+        {k c from at end : ℕ} {to mid told : List ℕ} {seen met after : List Bool} → k < 16 → c ≡ S.link j k →
         Told (text_below k) (Through S j k) (suc below) 0 from to mid seen met at →
-        Told (argument_text (sign_before from at) l c (term_from S below c)) (Onward S c) below 0 at mid told met after end →
+        Told (argument_text (sign_before from at) k c (term_from S below c)) (Onward S c) below 0 at mid told met after end →
         Told (text_below (k + 1)) (Through S j (k + 1)) (suc below) 0 from to told seen after end
-    more_told {k} {l} {c} {from} {at} small turn e t u =
-        let link = e ∙ ap (S.link j) turn in
-        let said = ap (λ (i : ℕ). text_below k ++ argument_text (sign_before from at) i c (term_from S below c)) turn in
+    more_told {k} {c} {from} {at} small link t u =
         record {
-          put = put_as (said ∙ arguments_more S (λ c. term_from S below c) j k from at link t.put.ends) (both_put t.put u.put);
+          put = put_as (arguments_more S (λ c. term_from S below c) j k from at link t.put.ends) (both_put t.put u.put);
           visited = link_visited S j k small t.visited link u.visited;
           room = omega (arith, t.room, u.room);
         }
 
+    -- as far as another number says
+    pub told_at :
+        {k m from at : ℕ} {to mid : List ℕ} {seen met : List Bool} → k ≡ m →
+        Told (text_below k) (Through S j k) (suc below) 0 from to mid seen met at →
+        Told (text_below m) (Through S j m) (suc below) 0 from to mid seen met at
+    told_at {from = from} {at = at} {to = to} {mid = mid} {seen = seen} {met = met} e t =
+        subst (λ (i : ℕ). Told (text_below i) (Through S j i) (suc below) 0 from to mid seen met at) e t
+
     -- a link that is not known, and four of them
     unknown_more :
-        {k from at : ℕ} {to mid seen met : List ℕ} → k < 16 → S.link j k ≡ unknown →
+        {k from at : ℕ} {to mid : List ℕ} {seen met : List Bool} → k < 16 → S.link j k ≡ unknown →
         Told (text_below k) (Through S j k) (suc below) 0 from to mid seen met at →
         Told (text_below (k + 1)) (Through S j (k + 1)) (suc below) 0 from to mid seen met at
     unknown_more {k} {from} {at} {to} {mid} {seen} {met} small e t =
-        more_told small refl refl t (unknown_told (sign_before from at) k below at (term_from S below (S.link j k)) mid met e)
+        more_told small refl t (unknown_told (sign_before from at) k below at (term_from S below (S.link j k)) mid met e)
 
     pub four_told :
-        {k from at : ℕ} {to mid seen met : List ℕ} → k ≤ 12 → links_from S j k 4 ≡ [] →
-        Told (text_below k) (Through S j k) (suc below) 0 from to mid seen met at →
-        Told (text_below (k + 4)) (Through S j (k + 4)) (suc below) 0 from to mid seen met at
-    four_told {k} {from} {at} {to} {mid} {seen} {met} small none t =
-        let q = four_unknown S j k none in
-        let three = unknown_more (omega arith) q.2 (unknown_more (omega arith) q.1 (unknown_more (omega arith) q.0 t)) in
-        let e : k + 1 + 1 + 1 + 1 ≡ k + 4 = omega arith in
-        subst (λ (i : ℕ). Told (text_below i) (Through S j i) (suc below) 0 from to mid seen met at) e (unknown_more (omega arith) q.3 three)
+        {q from at : ℕ} {to mid : List ℕ} {seen met : List Bool} → q < 4 → links_from S j (4 * q) 4 ≡ [] →
+        Told (text_below (4 * q)) (Through S j (4 * q)) (suc below) 0 from to mid seen met at →
+        Told (text_below (4 * (q + 1))) (Through S j (4 * (q + 1))) (suc below) 0 from to mid seen met at
+    four_told {q} {from} {at} {to} {mid} {seen} {met} small none t =
+        let u = four_unknown S j (4 * q) none in
+        let three = unknown_more (omega arith) u.2 (unknown_more (omega arith) u.1 (unknown_more (omega arith) u.0 t)) in
+        let e : 4 * q + 1 + 1 + 1 + 1 ≡ 4 * (q + 1) = omega arith in
+        told_at e (unknown_more (omega arith) u.3 three)
 
     pub joint_told :
-        {s at from inner end : ℕ} {to mid told closed seen after : List ℕ} → j < length seen → Unmarked seen j → j < 64 → s < 64 → s ≡ S.kind j →
+        {s at from inner end : ℕ} {to mid told closed : List ℕ} {seen after : List Bool} → j < length seen → Unmarked seen j → j < 64 → s < 64 → s ≡ S.kind j →
         Put (head_text j s) at to mid from →
-        Told (text_below 16) (Through S j 16) (suc below) 0 from mid told (set seen j 1) after inner →
+        Told (text_below 16) (Through S j 16) (suc below) 0 from mid told (set seen j true) after inner →
         Put (closing_text from inner) inner told closed end →
         Told (term_text (term_from S (suc below) j)) (Walk S j) (suc below) link_room at to closed seen after end
     joint_told {s} {at} {from} {inner} {end} {to} {mid} {told} {closed} {seen} {after} inside free hj hs e p t q =

@@ -48,15 +48,13 @@ from_two_digits x h g =
     let e : x ≡ 10 * (x / 10) + x % 10 = omega arith in
     ap decimal e ∙ two_digits (x / 10) (x % 10) (omega arith) (omega arith) (omega arith)
 
-module _ {x at : ℕ} {s t : List ℕ} where
-  pub one_digit_put : {d end : ℕ} → x < 10 → d ≡ digit x → Put (d ∷ []) at s t end → Put (decimal x) at s t end
-  one_digit_put h e p = put_as (ap (λ (b : ℕ). b ∷ []) e ∙ sym (one_digit x h)) p
+-- the signs of a number's digits
+pub one_sign : {a : ℕ} (x : ℕ) → x < 10 → a ≡ digit x → a ∷ [] ≡ decimal x
+one_sign x h e = ap (λ (d : ℕ). d ∷ []) e ∙ sym (one_digit x h)
 
-  pub two_digits_put :
-      {a b mid end : ℕ} {u : List ℕ} → 10 ≤ x → x < 100 → a ≡ digit (x / 10) → b ≡ digit (x % 10) →
-      Put (a ∷ []) at s t mid → Put (b ∷ []) mid t u end → Put (decimal x) at s u end
-  two_digits_put {a} h g e f p q =
-      put_as (ap (λ (y : ℕ). a ∷ y ∷ []) f ∙ ap (λ (y : ℕ). y ∷ digit (x % 10) ∷ []) e ∙ sym (from_two_digits x h g)) (both_put p q)
+pub two_signs : {a b : ℕ} (x : ℕ) → 10 ≤ x → x < 100 → a ≡ digit (x / 10) → b ≡ digit (x % 10) → a ∷ b ∷ [] ≡ decimal x
+two_signs {a} x h g e f =
+    ap (λ (d : ℕ). a ∷ d ∷ []) f ∙ ap (λ (d : ℕ). d ∷ digit (x % 10) ∷ []) e ∙ sym (from_two_digits x h g)
 
 -- bytes that are left out where x is y are none or all
 pub none_or_all : (x y : ℕ) (bytes : List ℕ) → length (cond (eqb x y) [] bytes) ≤ length bytes

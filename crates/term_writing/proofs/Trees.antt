@@ -3,6 +3,7 @@
 -- Assumes nothing.
 use mathlib.Core.Path.{◌≡◌, refl, sym, ap, ◌∙◌}
 use mathlib.Core.Logic.{◌≢◌, ◌⊎◌, inl, inr, ⊎_elim, by_cases}
+use mathlib.Core.Bool.{Bool}
 use mathlib.Core.List.{List, [], ◌∷◌, ◌++◌}
 use Prim.Native.Nat.{ℕ, ◌<◌, ◌≤◌}
 use native.Mathlib.Omega.{arith}
@@ -16,6 +17,7 @@ use Rattle.term_writing.specs.Tree.Concerned.{kind_known, link_known, led_to}
 use Rattle.term_writing.specs.Visiting.{Marked, Unmarked, Visited, Failed, Sound, Accounted, Missed}
 use Rattle.term_writing.specs.Visiting.Failed.{too_deep, twice, met}
 use Rattle.term_writing.specs.Visiting.Accounted.{marked, silent}
+use Rattle.term_writing.proofs.Visits.{not_both}
 use Rattle.term_writing.proofs.Walks.{well_inside, only_walk, short_walk}
 
 -- a well-formed form whose joints are apart is sound
@@ -37,17 +39,17 @@ module _ {v : ℕ} {S : Form} (sound : Sound v S) where
 
   module _ {root : ℕ} (inside : root < v) where
     -- a tree has walks that are short and lead apart, so no visit of one fails
-    pub failed_no_tree : {seen : List ℕ} → ((m : ℕ) → Unmarked seen m) → Failed (Walk S root) deepest seen → TreeFrom v S root → ⊥
-    failed_no_tree none (too_deep w m t h) tree = omega (arith, short_walk S sound.links inside tree m w t)
-    failed_no_tree none (twice w u m d p q) tree = d (only_walk S sound.links inside tree m w u p q)
-    failed_no_tree none (met w m t h) tree = h (none m)
+    pub failed_no_tree : {seen : List Bool} → ((m : ℕ) → Unmarked seen m) → Failed (Walk S root) deepest seen → TreeFrom v S root → ⊥
+    failed_no_tree {seen} none (too_deep w m t h) tree = omega (arith, short_walk S sound.links inside tree m w t)
+    failed_no_tree {seen} none (twice w u m d p q) tree = d (only_walk S sound.links inside tree m w u p q)
+    failed_no_tree {seen} none (met w m t h) tree = not_both seen m h (none m)
 
-    module _ {seen after : List ℕ} (visited : Visited (Walk S root) deepest seen after) where
+    module _ {seen after : List Bool} (visited : Visited (Walk S root) deepest seen after) where
       pub missed_no_tree : {j : ℕ} → j < v → Missed S after j → TreeFrom v S root → ⊥
       missed_no_tree {j} h missed tree =
           by_cases (ℕ_discrete j root)
-          (λ e. visited.marks [] j (sym e) missed.unmet)
-          (λ d. let o = tree.reached j h d (concerned missed.says) in visited.marks o.walk j o.leads missed.unmet)
+          (λ e. not_both after j (visited.marks [] j (sym e)) missed.unmet)
+          (λ d. let o = tree.reached j h d (concerned missed.says) in not_both after j (visited.marks o.walk j o.leads) missed.unmet)
         where
           concerned : (S.kind j ≢ 1) ⊎ ((l : ℕ) × ((l < 16) × (S.link j l ≢ unknown))) → Concerned v S j
           concerned (inl k) = kind_known k
@@ -55,7 +57,7 @@ module _ {v : ℕ} {S : Form} (sound : Sound v S) where
 
       module _ (none : (m : ℕ) → Unmarked seen m) (accounted : (j : ℕ) → j < v → Accounted S after j) where
         reached_by : {j : ℕ} → Marked after j → (w : List ℕ) × Walk S root w j
-        reached_by {j} h = ⊎_elim (λ s. absurd (s (none j))) (λ x. x) (visited.new j h)
+        reached_by {j} h = ⊎_elim (λ s. absurd (not_both seen j s (none j))) (λ x. x) (visited.new j h)
 
         one : {j : ℕ} (w : List ℕ) → Walk S root w j → OneWalk S root j
         one {j} w t = record { walk = w; leads = t; short = visited.short w j t; only = λ other p. visited.once other w j p t }

@@ -3,47 +3,49 @@
 -- Assumes nothing.
 use mathlib.Core.Path.{◌≡◌, refl, sym, ap, subst, ◌∙◌}
 use mathlib.Core.Logic.{◌≢◌, ◌⊎◌, inl, inr, ⊎_elim, by_cases}
-use mathlib.Core.Bool.{Bool, true, false, cond}
+use mathlib.Core.Bool.{Bool, true, false, cond, true≢false}
 use mathlib.Core.List.{List, [], ◌∷◌, cons≢nil}
 use Prim.Native.Nat.{ℕ, zero, suc, ◌+◌, ◌<◌, ◌≤◌}
 use native.Mathlib.Omega.{arith}
 use native.Mathlib.Decide.{dec_lt, ℕ_discrete}
-use lib.Dec.{eqb}
 use lib.ListN.{length, get_or, set}
 use lib.Seq.{get_or-set_same, get_or-set_other}
-use borrow.Author.Tests.{eq-eqb}
 use Rattle.meaning.specs.Form.{Form, unknown}
 use Rattle.term_writing.specs.Tree.{Walk}
 use Rattle.term_writing.specs.Visiting.{Marked, Unmarked, unmarked, Through, Onward, Visited, Failed}
 use Rattle.term_writing.specs.Visiting.Failed.{too_deep, twice, met}
 
 -- a joint that is marked newly
-module _ (seen : List ℕ) (j : ℕ) where
-  marked_now : j < length seen → {m : ℕ} → m ≡ j → Marked (set seen j 1) m
-  marked_now h e z = let s = get_or-set_same seen j 1 0 h in omega (arith, s, sym (ap (λ (i : ℕ). get_or (set seen j 1) i 0) e) ∙ z)
+module _ (seen : List Bool) (j : ℕ) where
+  marked_now : j < length seen → {m : ℕ} → m ≡ j → Marked (set seen j true) m
+  marked_now h e = ap (λ (i : ℕ). get_or (set seen j true) i false) e ∙ get_or-set_same seen j true false h
 
-  stays : {m : ℕ} → (m ≡ j → ⊥) → get_or (set seen j 1) m 0 ≡ get_or seen m 0
-  stays {m} d = get_or-set_other seen j m 1 0 d
+  stays : {m : ℕ} → (m ≡ j → ⊥) → get_or (set seen j true) m false ≡ get_or seen m false
+  stays {m} d = get_or-set_other seen j m true false d
 
-  marked_still : j < length seen → (m : ℕ) → Marked seen m → Marked (set seen j 1) m
-  marked_still h m k = by_cases (ℕ_discrete m j) (λ e. marked_now h e) (λ d z. k (sym (stays d) ∙ z))
+  marked_still : j < length seen → (m : ℕ) → Marked seen m → Marked (set seen j true) m
+  marked_still h m k = by_cases (ℕ_discrete m j) (λ e. marked_now h e) (λ d. stays d ∙ k)
 
-  marked_before : (m : ℕ) → Marked (set seen j 1) m → (m ≡ j) ⊎ Marked seen m
-  marked_before m k = by_cases (ℕ_discrete m j) (λ e. inl e) (λ d. inr (λ z. k (stays d ∙ z)))
+  marked_before : (m : ℕ) → Marked (set seen j true) m → (m ≡ j) ⊎ Marked seen m
+  marked_before m k = by_cases (ℕ_discrete m j) (λ e. inl e) (λ d. inr (sym (stays d) ∙ k))
 
-pub one_marked : (seen : List ℕ) (j : ℕ) → j < length seen → Unmarked seen j → unmarked seen ≡ suc (unmarked (set seen j 1))
+-- no joint is both
+pub not_both : (seen : List Bool) (m : ℕ) → Marked seen m → Unmarked seen m → ⊥
+not_both seen m k e = true≢false (sym k ∙ e)
+
+pub one_marked : (seen : List Bool) (j : ℕ) → j < length seen → Unmarked seen j → unmarked seen ≡ suc (unmarked (set seen j true))
 unfolding unmarked
 one_marked [] j h e = absurd (omega arith)
-one_marked (x ∷ xs) zero h e = rw (eq-eqb x 0 e)
-one_marked (x ∷ xs) (suc j) h e = counted (eqb x 0) (one_marked xs j (omega arith) e)
+one_marked (x ∷ xs) zero h e = rw e
+one_marked (x ∷ xs) (suc j) h e = counted x (one_marked xs j (omega arith) e)
   where
-    counted : (b : Bool) {m n : ℕ} → m ≡ suc n → cond b (suc m) m ≡ suc (cond b (suc n) n)
-    counted true e = ap suc e
-    counted false e = e
+    counted : (b : Bool) {m n : ℕ} → m ≡ suc n → cond b m (suc m) ≡ suc (cond b n (suc n))
+    counted true e = e
+    counted false e = ap suc e
 
 -- where no walk leads anywhere there is nothing to visit
 nowhere_visited :
-    {Leads : List ℕ → ℕ → Type 0} (n : ℕ) (seen : List ℕ) → ((w : List ℕ) (m : ℕ) → Leads w m → ⊥) → Visited Leads n seen seen
+    {Leads : List ℕ → ℕ → Type 0} (n : ℕ) (seen : List Bool) → ((w : List ℕ) (m : ℕ) → Leads w m → ⊥) → Visited Leads n seen seen
 nowhere_visited n seen none =
     record {
       kept = λ m h. h;
@@ -89,8 +91,8 @@ module _ (S : Form) (j : ℕ) where
     earlier [] m t ls e = absurd t
     earlier (l ∷ others) m t ls e = let q : l ≡ k = cc in omega (arith, t.0)
 
-    module _ {n : ℕ} {seen mid : List ℕ} (small : k < 16) (before : Visited (Through S j k) (suc n) seen mid) where
-      through_more : {after : List ℕ} → Visited (Onward S (S.link j k)) n mid after → Visited (Through S j (k + 1)) (suc n) seen after
+    module _ {n : ℕ} {seen mid : List Bool} (small : k < 16) (before : Visited (Through S j k) (suc n) seen mid) where
+      through_more : {after : List Bool} → Visited (Onward S (S.link j k)) n mid after → Visited (Through S j (k + 1)) (suc n) seen after
       through_more {after} here =
           record {
             kept = λ m h. here.kept m (before.kept m h);
@@ -125,14 +127,14 @@ module _ (S : Form) (j : ℕ) where
           (before.new m h)
 
       -- the same, of the joint that was read
-      pub link_visited : {c : ℕ} {after : List ℕ} → c ≡ S.link j k → Visited (Onward S c) n mid after → Visited (Through S j (k + 1)) (suc n) seen after
+      pub link_visited : {c : ℕ} {after : List Bool} → c ≡ S.link j k → Visited (Onward S c) n mid after → Visited (Through S j (k + 1)) (suc n) seen after
       link_visited {after = after} e v = through_more (subst (λ (i : ℕ). Visited (Onward S i) n mid after) e v)
 
       pub link_failed : {c : ℕ} → c ≡ S.link j k → Failed (Onward S c) n mid → Failed (Through S j 16) (suc n) seen
       link_failed e f = through_fails (subst (λ (i : ℕ). Failed (Onward S i) n mid) e f)
 
   -- before the first link
-  pub none_visited : (n : ℕ) (seen : List ℕ) → Visited (Through S j 0) n seen seen
+  pub none_visited : (n : ℕ) (seen : List Bool) → Visited (Through S j 0) n seen seen
   none_visited n seen = nowhere_visited n seen none
     where
       none : (w : List ℕ) (m : ℕ) → Through S j 0 w m → ⊥
@@ -140,8 +142,8 @@ module _ (S : Form) (j : ℕ) where
       none (l ∷ ls) m t = omega (arith, t.0)
 
   -- the joint itself is marked, then its links are gone through
-  module _ {n : ℕ} (seen : List ℕ) (inside : j < length seen) where
-    pub joint_visited : {after : List ℕ} → Unmarked seen j → Visited (Through S j 16) (suc n) (set seen j 1) after → Visited (Walk S j) (suc n) seen after
+  module _ {n : ℕ} (seen : List Bool) (inside : j < length seen) where
+    pub joint_visited : {after : List Bool} → Unmarked seen j → Visited (Through S j 16) (suc n) (set seen j true) after → Visited (Walk S j) (suc n) seen after
     joint_visited {after} free v =
         record {
           kept = λ m h. v.kept m (marked_still seen j inside m h);
@@ -155,7 +157,7 @@ module _ (S : Form) (j : ℕ) where
           fresh = fresh;
         }
       where
-        own : {m : ℕ} → j ≡ m → Marked (set seen j 1) m
+        own : {m : ℕ} → j ≡ m → Marked (set seen j true) m
         own e = marked_now seen j inside (sym e)
 
         marks : (w : List ℕ) (m : ℕ) → Walk S j w m → Marked after m
@@ -173,10 +175,10 @@ module _ (S : Form) (j : ℕ) where
         short (l ∷ ls) m t = v.short (l ∷ ls) m (t.0, t)
 
         fresh : (w : List ℕ) (m : ℕ) → Walk S j w m → Marked seen m → ⊥
-        fresh [] m e s = s (ap (λ (i : ℕ). get_or seen i 0) (sym e) ∙ free)
+        fresh [] m e s = not_both seen m s (ap (λ (i : ℕ). get_or seen i false) (sym e) ∙ free)
         fresh (l ∷ ls) m t s = v.fresh (l ∷ ls) m (t.0, t) (marked_still seen j inside m s)
 
-    pub joint_failed : Failed (Through S j 16) (suc n) (set seen j 1) → Failed (Walk S j) (suc n) seen
+    pub joint_failed : Failed (Through S j 16) (suc n) (set seen j true) → Failed (Walk S j) (suc n) seen
     joint_failed (too_deep w m t h) = too_deep w m (walk_of w m t) h
     joint_failed (twice w u m d p q) = twice w u m d (walk_of w m p) (walk_of u m q)
     joint_failed (met w m t h) =
@@ -186,11 +188,11 @@ module _ (S : Form) (j : ℕ) where
         (marked_before seen j m h)
 
 -- a link that is not known leads nowhere; one that is known leads where the walks from its joint lead
-module _ (S : Form) {c n : ℕ} (seen : List ℕ) where
+module _ (S : Form) {c n : ℕ} (seen : List Bool) where
   pub nothing_onward : c ≡ unknown → Visited (Onward S c) n seen seen
   nothing_onward e = nowhere_visited _ seen (λ w m o. o.0 e)
 
-  pub onward_visited : {after : List ℕ} → c ≢ unknown → Visited (Walk S c) n seen after → Visited (Onward S c) n seen after
+  pub onward_visited : {after : List Bool} → c ≢ unknown → Visited (Walk S c) n seen after → Visited (Onward S c) n seen after
   onward_visited d v =
       record {
         kept = v.kept;

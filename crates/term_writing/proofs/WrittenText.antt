@@ -9,10 +9,9 @@ use native.Mathlib.Omega.{arith}
 use lib.Dec.{ltb}
 use lib.ListN.{length}
 use borrow.Author.Tests.{ltb-true}
+use Rattle.std.specs.Prelude.{Ok}
 use Rattle.replies.specs.declared.Cause.TheVariants.{OutOfRange}
-use Rattle.replies.specs.declared.Reply.{Reply}
-use Rattle.replies.specs.declared.Reply.TheVariants.{Done}
-use Rattle.replies.specs.Replies.{refuses, third}
+use Rattle.replies.specs.Replies.{refuses, third, Reply}
 use Rattle.replies.proofs.Laws.{refusal_third, first_passed, test_passed}
 use Rattle.joints.specs.Layout.{joints_of, block_form}
 use Rattle.blocks.specs.WellFormed.{block_reply}
@@ -26,11 +25,11 @@ use Rattle.term_writing.proofs.TreeFacts.{tree_fits, tree_few}
 use Rattle.term_writing.proofs.TextLength.{text_length}
 
 module _ (b : List ℕ) (root : ℕ) where
-  pub write_goes_on : write_term_refusal b root ≡ Done 0 → GoodBlock b × (root < joints_of b)
+  pub write_goes_on : write_term_refusal b root ≡ Ok 0 → GoodBlock b × (root < joints_of b)
   unfolding write_term_refusal
   write_goes_on d =
-      let passed = first_passed (block_reply b) _ (Done 0) (ap refuses d) in
-      let inside = test_passed (ltb root (joints_of b)) OutOfRange 0 [] (Done 0) passed.1 in
+      let passed = first_passed (block_reply b) _ (Ok 0) (ap refuses d) in
+      let inside = test_passed (ltb root (joints_of b)) OutOfRange 0 [] (Ok 0) passed.1 in
       (good_block b passed.0, ltb-true root (joints_of b) inside.0)
 
   pub written_short : GoodBlock b → root < joints_of b → TreeFrom (joints_of b) (block_form b) root → length (written_text b root) ≤ 17418

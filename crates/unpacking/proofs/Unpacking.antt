@@ -96,10 +96,6 @@ then_numbered a h k =
       rest = λ i b. k.above i b ∙ h.above i (omega arith);
     }
 
--- a part that lies inside a list has its full length
-pub part_size : (start count : ℕ) (l : List ℕ) → start + count ≤ length l → length (take count (drop start l)) ≡ count
-part_size start count l h = simp (length-take, length-drop) (omega arith)
-
 -- the three parts of the session's form, and behind them free nodes
 pub unpacked :
     (b class kind link : List ℕ) (v k : ℕ)

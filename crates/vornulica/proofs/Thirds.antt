@@ -5,8 +5,7 @@ use mathlib.Core.Path.{◌≡◌, ◌∙◌, ap}
 use mathlib.Core.List.{List}
 use Prim.Native.Nat.{ℕ, ◌^◌, ◌-◌, ◌<◌}
 use native.Mathlib.Omega.{arith}
-use Rattle.replies.specs.declared.Reply.{Reply}
-use Rattle.replies.specs.Replies.{third}
+use Rattle.replies.specs.Replies.{third, Reply}
 use Rattle.replies.proofs.Laws.{refusal_third}
 use Rattle.solver.proofs.Run.{classes_le}
 use Rattle.joints.specs.Layout.{joints_of, block_form, class_count}

@@ -1,8 +1,7 @@
 -- What the host gets: the reply of a call, packed into one number.
 -- Assumes nothing.
 use Rattle.std.specs.Prelude.{◌≡◌, ℕ}
-use Rattle.replies.specs.declared.Reply.{Reply}
-use Rattle.replies.specs.Replies.{packed}
+use Rattle.replies.specs.Replies.{packed, Reply}
 
 -- the number of a reply that the call allows
 pub record HostNumber (Allows : Reply → Type 0) (number : ℕ) : Type 0 where

@@ -3,8 +3,7 @@
 -- Assumes nothing.
 use Rattle.std.specs.Prelude.{cond, List, ℕ, eqb, length}
 use Rattle.replies.specs.declared.Cause.TheVariants.{BadSize}
-use Rattle.replies.specs.declared.Reply.{Reply}
-use Rattle.replies.specs.Replies.{unless}
+use Rattle.replies.specs.Replies.{unless, Reply}
 use Rattle.house.specs.Meets.{house_table}
 
 abbrev pub house_reply : List ℕ → Reply

@@ -13,7 +13,7 @@ ghost use Rattle.term_writing.specs.WriteTerm.{WriteTerm};
 ghost use Rattle.vornulica.specs.House.{house_reply, house_buffer};
 ghost use Rattle.vornulica.specs.Host.{HostNumber};
 
-use replies::{Cause, Reply};
+use replies::{Cause, Refusal, Reply};
 
 // Opens a session of v joints with a table of n kinds over the block.
 pub fn rig_open(n: u64, v: u64, table: &[u8], block: &mut [u8]) -> u64
@@ -62,8 +62,8 @@ pub fn rig_house(table: &mut [u8]) -> u64
     ensures { (result ≡ packed (house_reply table.old)) × (table.new ≡ house_buffer table.old) }
 {
     if table.len() != 1089 {
-        return replies::to_host(Reply::Refused(Cause::BadSize, 0));
+        return replies::to_host(Err(Refusal(Cause::BadSize, 0)));
     }
     runs::copy(table, &house::table());
-    replies::to_host(Reply::Done(0))
+    replies::to_host(Ok(0))
 }

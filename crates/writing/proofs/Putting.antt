@@ -8,8 +8,10 @@ use Prim.Native.Nat.{ℕ, zero, suc, ◌+◌, ◌-◌, ◌*◌, ◌/◌, ◌%◌
 use native.Mathlib.Omega.{arith}
 use native.Mathlib.Numerals.{add-one}
 use lib.Dec.{eqb}
-use lib.ListN.{length, set, take, drop, length-append, length-take, length-drop}
-use lib.Seq.{sets-eq, take_at, drop_at, take-add, drop-drop, length-take-le}
+use lib.ListN.{length, take, drop, length-append, length-take, length-drop, take-append-drop}
+use lib.Seq.{drop_at, take-add, drop-drop, length-take-le}
+use Rattle.std.proofs.lemmas.Slice.{take-put_mid, drop-put_mid}
+use borrow.Rule.Slice.PartMut.{put_mid, same_len_mid}
 use borrow.Author.Tests.{eq-eqb, ne_eqb}
 use Rattle.meaning.specs.declared.RigJoint.{RigJoint}
 use Rattle.meaning.specs.Picture.{Fact, rename}
@@ -19,38 +21,22 @@ use Rattle.packets.specs.FactsPacket.{fact_bytes, all_bytes, facts_packet}
 use Rattle.packets.proofs.FactsPacket.{bytes_four}
 use Rattle.writing.specs.Putting.{Room, Put, form_bytes, kind_bytes, link_bytes, same_bytes}
 
--- bytes that stand where others stood
-placed :
-    (bytes s : List ℕ) {t : List ℕ} (at : ℕ) → at + length bytes ≤ length s → t ≡ (take at s ++ bytes) ++ drop (at + length bytes) s →
-    Put bytes at s t (at + length bytes)
-placed bytes s at h e =
-    let end : ℕ = at + length bytes in
-    let long : length (take at s ++ bytes) ≡ end = simp (length-append, length-take) (omega arith) in
+-- bytes written over others, in the middle of s
+pub written_over : (bytes s ys : List ℕ) (at : ℕ) → at + length bytes ≤ length s → ys ≡ bytes →
+    Put bytes at s (put_mid at (at + length bytes - at) s ys) (at + length bytes)
+written_over bytes s ys at h e =
+    let long : length ys ≡ at + length bytes - at = omega (arith, ap length e) in
     record {
-      size = ap length e ∙ omega (arith, length-append (take at s ++ bytes) (drop end s), long, length-drop end s);
+      size = same_len_mid at (at + length bytes - at) s ys (simp (length-take, length-drop) (omega arith));
       ends = refl;
-      front = ap (take end) e ∙ take_at (take at s ++ bytes) (drop end s) end long;
-      behind = ap (drop end) e ∙ drop_at (take at s ++ bytes) (drop end s) end long;
+      front = take-put_mid at (at + length bytes - at) s ys (at + length bytes) (omega arith) (omega arith) ∙ ap (λ (l : List ℕ). take at s ++ l) e;
+      behind = drop-put_mid at (at + length bytes - at) s ys (at + length bytes) (omega arith) (omega arith) long;
     }
 
--- one byte, and four stored one after the other
-pub byte_put : (s : List ℕ) (at x : ℕ) → at + 1 ≤ length s → Put (x ∷ []) at s (set s at x) (at + 1)
-byte_put s at x h = placed (x ∷ []) s at h (sets-eq (x ∷ []) s at h)
-
-pub four_put :
-    (s : List ℕ) (at a b c d : ℕ) → at + 4 ≤ length s →
-    Put (a ∷ b ∷ c ∷ d ∷ []) at s (set (set (set (set s at a) (at + 1) b) (at + 2) c) (at + 3) d) (at + 4)
-four_put s at a b c d h =
-    let new = a ∷ b ∷ c ∷ d ∷ [] in
-    let one : at + 1 ≡ suc at = omega arith in
-    let two : at + 2 ≡ suc (suc at) = omega arith in
-    let three : at + 3 ≡ suc (suc (suc at)) = omega arith in
-    placed new s at h (rw (one, two, three) (sets-eq new s at h))
-
-pub six_put :
-    (s : List ℕ) (a b c d e f : ℕ) → 6 ≤ length s →
-    set (set (set (set (set (set s 0 a) 1 b) 2 c) 3 d) 4 e) 5 f ≡ a ∷ b ∷ c ∷ d ∷ e ∷ f ∷ drop 6 s
-six_put s a b c d e f h = sets-eq (a ∷ b ∷ c ∷ d ∷ e ∷ f ∷ []) s 0 h
+-- all of a list that has bytes in front
+pub whole : {bytes s t : List ℕ} {end : ℕ} → Put bytes 0 s t end → t ≡ bytes ++ drop end s
+whole {bytes} {s} {t} {end} p =
+    sym (take-append-drop end t) ∙ ap (λ (l : List ℕ). l ++ drop end t) p.front ∙ ap (λ (l : List ℕ). bytes ++ l) p.behind
 
 pub none_put : (at : ℕ) (s : List ℕ) → Put [] at s s at
 none_put at s = record { size = refl; ends = omega arith; front = sym (append-nil (take at s)); behind = refl }
@@ -58,12 +44,6 @@ none_put at s = record { size = refl; ends = omega arith; front = sym (append-ni
 pub nothing_put : {fs : List (Fact ℕ)} (at : ℕ) (s : List ℕ) → fs ≡ [] → Put (form_bytes fs) at s s at
 unfolding all_bytes
 nothing_put at s e = rw e (none_put at s)
-
--- four bytes that make the largest number are the largest each
-pub all_ones :
-    (a b c d : ℕ) → a < 256 → b < 256 → c < 256 → d < 256 → a + 256 * b + 65536 * c + 16777216 * d ≡ 4294967295 →
-    (a ≡ 255) × (b ≡ 255) × (c ≡ 255) × (d ≡ 255)
-all_ones a b c d ha hb hc hd e = (omega arith, omega arith, omega arith, omega arith)
 
 -- at `at`, with t written so far: what is left to put makes it s up to `from` and then all the bytes
 pub record Putting (all : List ℕ) (from : ℕ) (s t : List ℕ) (at : ℕ) (left : List ℕ) : Type 0 where

@@ -7,8 +7,8 @@ use mathlib.Core.List.{List, [], ◌∷◌, ◌++◌}
 use Prim.Native.Nat.{ℕ, zero, suc, ◌*◌, ◌^◌, ◌<◌, ◌≤◌}
 use native.Mathlib.Omega.{arith}
 use lib.Dec.{eqb}
-use lib.ListN.{length, drop, length-append, length-map, take-append-drop}
-use Rattle.replies.specs.declared.Reply.TheVariants.{Done}
+use lib.ListN.{length, drop, length-append, length-map}
+use Rattle.std.specs.Prelude.{Ok}
 use Rattle.replies.specs.Replies.{refuses, third}
 use Rattle.replies.proofs.Laws.{first_here, first_next, first_none, refusal_third}
 use Rattle.meaning.specs.Picture.{Fact, rename}
@@ -22,6 +22,7 @@ use Rattle.blocks.proofs.Shape.{GoodBlock, good_block, block_done}
 use Rattle.outputs.specs.Output.{output_reply, output_after}
 use Rattle.outputs.proofs.Output.{has_room, all_put, output_stays, output_third}
 use Rattle.writing.specs.Write.{solved_form, write_reply, written_output}
+use Rattle.writing.proofs.Putting.{whole}
 use Rattle.writing.specs.Putting.{most_at_joint, most_bytes, Room, Put}
 
 module _ (S : Form) where
@@ -70,25 +71,18 @@ pub form_done :
 form_done b {s} {t} {size} e p = subst (λ (v : ℕ). Put (facts_packet v (taken_facts v (block_form b))) 0 s t size) e p
 
 -- it stands in the front of its array
-module _ (b : List ℕ) {s t : List ℕ} {size : ℕ} (few : joints_of b ≤ 64) (p : Put (solved_form b) 0 s t size) where
+module _ (b : List ℕ) {s t : List ℕ} {size : ℕ} (short : size ≤ most_bytes) (p : Put (solved_form b) 0 s t size) where
   pub form_inside : length s ≡ most_bytes → size ≤ length t
-  form_inside e = omega (arith, p.size, p.ends, solved_form_short b few)
+  form_inside e = omega (arith, p.size)
 
   -- or in the front of an output that has room for any, where all of it has been put and nothing else
-  pub put_size : size ≤ most_bytes
-  put_size = omega (arith, p.ends, solved_form_short b few)
-
-  pub straight : most_bytes ≤ length s → (Done size ≡ output_reply (solved_form b) s) × (t ≡ output_after (solved_form b) s)
+  pub straight : most_bytes ≤ length s → (Ok size ≡ output_reply (solved_form b) s) × (t ≡ output_after (solved_form b) s)
   straight room =
       let form = solved_form b in
-      let short = solved_form_short b few in
       let e : size ≡ length form = omega (arith, p.ends) in
-      let h : length form ≤ length s = omega arith in (
-        ap Done e ∙ sym (has_room form s h),
-        sym (take-append-drop size t)
-            ∙ ap (λ (x : List ℕ). x ++ drop size t) p.front
-            ∙ ap (λ (x : List ℕ). form ++ x) (p.behind ∙ ap (λ (k : ℕ). drop k s) e)
-            ∙ all_put form s h,
+      let h : length form ≤ length s = omega (arith, p.ends) in (
+        ap Ok e ∙ sym (has_room form s h),
+        whole p ∙ ap (λ (k : ℕ). form ++ drop k s) e ∙ all_put form s h,
       )
 
 -- the answers of the call: that of the block where it refuses, else that of the output
@@ -118,7 +112,7 @@ module _ (b out : List ℕ) where
   -- an output with room for the form gets all of it
   pub write_done :
       GoodBlock b → length (solved_form b) ≤ length out →
-      (write_reply b out ≡ Done (length (solved_form b))) × (written_output b out ≡ solved_form b ++ drop (length (solved_form b)) out)
+      (write_reply b out ≡ Ok (length (solved_form b))) × (written_output b out ≡ solved_form b ++ drop (length (solved_form b)) out)
   write_done g h =
       let passes = ap refuses (block_done g) in
       (output_decides passes ∙ has_room (solved_form b) out h, sym (all_put (solved_form b) out h ∙ written passes))

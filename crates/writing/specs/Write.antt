@@ -1,8 +1,7 @@
 -- Write: replies 1, 4 and 12; the solved form as a facts packet, and the rest of the output unchanged.
 -- Assumes nothing.
 use Rattle.std.specs.Prelude.{cond, List, [], ◌∷◌, ℕ}
-use Rattle.replies.specs.declared.Reply.{Reply}
-use Rattle.replies.specs.Replies.{refuses, first_refusal}
+use Rattle.replies.specs.Replies.{refuses, first_refusal, Reply}
 use Rattle.packets.specs.FactsPacket.{facts_packet}
 use Rattle.joints.specs.Layout.{joints_of, taken}
 use Rattle.blocks.specs.WellFormed.{block_reply}

@@ -1,36 +1,50 @@
 -- `asking::same_rig` meets its contract: the answer is no where the class numbers or the kinds differ, and else that of the rows.
 -- Assumes nothing.
-use mathlib.Core.Path.{◌≡◌, ap}
+use mathlib.Core.Path.{◌≡◌, sym, ◌∙◌}
+use mathlib.Core.Bool.{true≢false, false≢true}
+use Prim.Native.Nat.{◌*◌}
 use lib.ListN.{length}
 use native.Mathlib.Omega.{arith}
-use Rattle.unpacking.proofs.Unpacking.{part_size}
-use Rattle.asking.proofs.Asking.{answers_same, rig_same, rig_rows}
+use Rattle.joints.specs.Layout.{classes_of, joint_kinds_of, rows_of}
+use Rattle.asking.proofs.Asking.{Tells, SameFront, front_told, answers_same, rig_same, rig_rows}
+use Rattle.solver.specs.Unpacked.{rows_size}
 use borrow.Author.Rules.{rules}
+use Rattle.asking.proofs.same_rig.Goals.{then-eq, else-eq}
 use Rattle.asking.proofs.same_rig.Goals as goal
 
-pub same_front-requires : goal.same_front-requires
-same_front-requires c =
-    let end_long : (length c.args.end.class ≡ 96) × (length c.args.end.kind ≡ 96) = (search rules, search rules) in
-    let s = c in
-    (omega (arith, s.requires, end_long), omega (arith, s.requires, ap length c.classes.ensures, part_size 2 64 s.args.session.now (omega (arith, s.requires))))
-
-pub same_front-requires-2 : goal.same_front-requires-2
-same_front-requires-2 c =
-    let end_long : (length c.args.end.class ≡ 96) × (length c.args.end.kind ≡ 96) = (search rules, search rules) in
-    let s = c in
-    (omega (arith, s.requires, end_long), omega (arith, s.requires, ap length c.kinds.ensures, part_size 66 64 s.args.session.now (omega (arith, s.requires))))
-
-pub same_front-requires-3 : goal.same_front-requires-3
-same_front-requires-3 c =
-    let s = c in
-    (omega (arith, s.requires), omega (arith, s.requires, ap length c.rows.ensures, part_size 130 1024 s.args.session.now (omega (arith, s.requires))))
-
-pub returns : goal.returns
-returns c =
+pub returns-then-eq-2 : goal.returns-then-eq-2
+returns-then-eq-2 c =
     let s = c.args in
-    let class = rw c.classes.ensures at c.same_front.ensures in
-    let kind = rw c.kinds.ensures at c.same_front-2.ensures in
-    let rows = rw c.rows.ensures at c.same_front-3.ensures in
-    answers_same
-    (rig_same s.v s.session.now s.end.class s.end.kind s.rows.now (class.0 c.if-not-same_front.false) (kind.0 c.if-not-same_front-2.false))
-    (rig_rows s.v s.session.now s.end.class s.end.kind s.rows.now) rows
+    let b = s.session.now in
+    let long : (length s.end.class ≡ 96) × (length s.end.kind ≡ 96) = (search rules, search rules) in
+    let class : Tells c.eq.result (SameFront s.end.class (classes_of b) s.v) =
+    rw c.classes.ensures.bytes at (front_told _ _ s.v (omega arith) (omega (arith, c.classes.ensures.size)) _ c.eq.ensures) in
+    let all_rows : length s.rows.now ≡ rows_size = search rules in
+    let rows : Tells c.eq-then-eq-2.result (SameFront s.rows.now (rows_of b) (16 * s.v)) =
+    rw c.rows.ensures.bytes at (front_told _ _ (16 * s.v) (omega arith) (omega (arith, c.rows.ensures.size)) _ c.eq-then-eq-2.ensures) in
+    elim c.if-eq.branch [
+      | then-eq w ↦
+          let kind : Tells w.eq-then-eq.result (SameFront s.end.kind (joint_kinds_of b) s.v) =
+          rw w.kinds.ensures.bytes at (front_told _ _ s.v (omega arith) (omega (arith, w.kinds.ensures.size)) _ w.eq-then-eq.ensures) in
+          answers_same (rig_same s.v b s.end.class s.end.kind s.rows.now (class.0 w.if-eq.true) (kind.0 (sym w.value-is ∙ c.if-eq-2.true)))
+          (rig_rows s.v b s.end.class s.end.kind s.rows.now) rows
+      | else-eq w ↦ absurd (true≢false (sym c.if-eq-2.true ∙ w.value-is ∙ w.if-eq.false))
+    ]
+
+pub returns-else-eq-2 : goal.returns-else-eq-2
+returns-else-eq-2 c =
+    let s = c.args in
+    let b = s.session.now in
+    let long : (length s.end.class ≡ 96) × (length s.end.kind ≡ 96) = (search rules, search rules) in
+    let class : Tells c.eq.result (SameFront s.end.class (classes_of b) s.v) =
+    rw c.classes.ensures.bytes at (front_told _ _ s.v (omega arith) (omega (arith, c.classes.ensures.size)) _ c.eq.ensures) in (
+      λ e. absurd (false≢true (sym c.if-eq-2.false ∙ e)),
+      λ _ q.
+          elim c.if-eq.branch [
+            | then-eq w ↦
+                let kind : Tells w.eq-then-eq.result (SameFront s.end.kind (joint_kinds_of b) s.v) =
+                rw w.kinds.ensures.bytes at (front_told _ _ s.v (omega arith) (omega (arith, w.kinds.ensures.size)) _ w.eq-then-eq.ensures) in
+                kind.1 (sym w.value-is ∙ c.if-eq-2.false) q.kind
+            | else-eq w ↦ class.1 w.if-eq.false q.class
+          ],
+    )

@@ -1,105 +1,39 @@
--- `asking::with_ties` meets its contract: each turn takes a tie plainly, and where that says no wholly.
+-- `asking::with_ties` meets its contract: each call of the closure gives the rule's tie of that number, at nodes.
 -- Assumes nothing.
-use mathlib.Core.Path.{◌≡◌, ap, ◌∙◌}
-use mathlib.Core.Bool.{false≢true}
-use Prim.Native.Nat.{◌+◌, ◌<◌}
+use mathlib.Core.Path.{◌≡◌}
 use native.Mathlib.Omega.{arith}
 use borrow.Author.Rules.{rules}
-use Rattle.meaning.specs.Asking.{tie_fact}
-use Rattle.meaning.specs.Solving.{InRange}
-use Rattle.packets.specs.Packet.{ties, joints}
 use Rattle.screening.specs.Screening.{rule_wanted}
 use Rattle.screening.proofs.Screening.{tie_inside}
 use Rattle.screening.proofs.WellFormed.{WellFormed}
-use Rattle.solver.specs.Unpacked.{Lent, node_fact}
-use Rattle.asking.proofs.Turns.{turn_begins, turn_plainly, turn_still, turn_wholly, turn_stops, turn_ends, lent_still}
-use Rattle.asking.proofs.Asking.{node_tie, rule_fits, tie_range, node_ties}
+use Rattle.solver.specs.Unpacked.{node_fact}
+use Rattle.asking.proofs.Asking.{node_tie, rule_fits, tie_range, node_ties, folded_took, on_ok_too}
 use Rattle.asking.proofs.with_ties.Goals as goal
 
 pub bounds-packet-5 : goal.bounds-packet-5
 bounds-packet-5 c =
-    let fits : WellFormed rule_wanted c.args.n c.args.v c.args.packet.now = rule_fits _ _ _ c.requires.packet_value in
+    let fits : WellFormed rule_wanted c.args.table.n c.args.v c.args.packet.now = rule_fits _ _ _ c.requires.packet_value in
     omega (arith, fits.whole.header)
 
 pub bounds-packet-4 : goal.bounds-packet-4
 bounds-packet-4 c =
-    let fits : WellFormed rule_wanted c.args.n c.args.v c.args.packet.now = rule_fits _ _ _ c.requires.packet_value in
+    let fits : WellFormed rule_wanted c.args.table.n c.args.v c.args.packet.now = rule_fits _ _ _ c.requires.packet_value in
     omega (arith, fits.whole.header)
 
-pub loop-i-init : goal.loop-i-init
-loop-i-init c =
-    let r = c.requires.rows_len in
-    (omega arith, turn_begins _ (record { class_size = search rules; kind_size = search rules; rows_sized = r.0 }) r.1 r.2)
+pub take_all-requires-clause-callable : goal.take_all-requires-clause-callable
+take_all-requires-clause-callable c = λ i h κs p e r s u l m.
+    let fits : WellFormed rule_wanted c.args.table.n c.args.v c.args.packet.now = rule_fits _ _ _ c.requires.packet_value in
+    (omega (arith, h, fits.ties_to), tie_inside fits.whole i h, omega (arith, c.requires.ready.0.nodes, fits.tie_rule i h))
 
-pub tie-tie-requires : goal.tie-tie-requires
-tie-tie-requires c =
-    let fits : WellFormed rule_wanted c.args.n c.args.v c.args.packet.now = rule_fits _ _ _ c.requires.packet_value in
-    tie_inside fits.whole c.loop-i.i c.loop-i-test.true
-
-pub tie_fact-fact-requires : goal.tie_fact-fact-requires
-tie_fact-fact-requires c =
-    let fits : WellFormed rule_wanted c.args.n c.args.v c.args.packet.now = rule_fits _ _ _ c.requires.packet_value in
-    omega (arith, c.requires.rows_len.1.nodes, fits.tie_rule c.loop-i.i c.loop-i-test.true, ap (λ x. x.rule.0) c.tie-tie.ensures)
-
--- the tie read is the i-th, and in range
-pub take_plainly-plain-requires-clause-lent : goal.take_plainly-plain-requires-clause-lent
-take_plainly-plain-requires-clause-lent c =
-    let fits : WellFormed rule_wanted c.args.n c.args.v c.args.packet.now = rule_fits _ _ _ c.requires.packet_value in
-    let at_node : node_fact c.tie_fact-fact.result ≡ node_tie c.args.v c.args.packet.now c.loop-i.i = c.tie_fact-fact.ensures ∙ ap (tie_fact _) c.tie-tie.ensures in
-    let below : c.loop-i.i < ties c.args.packet.now = c.loop-i-test.true in
-    let in_range : InRange c.args.n (c.args.v + joints c.args.packet.now) (node_fact c.tie_fact-fact.result) = rw at_node (tie_range fits c.loop-i.i below) in
-    (c.loop-i.invariant.1.lent, in_range)
-
-pub loop-i-preserved-then-plain : goal.loop-i-preserved-then-plain
-loop-i-preserved-then-plain c =
-    let at_node : node_fact c.tie_fact-fact.result ≡ node_tie c.args.v c.args.packet.now c.loop-i.i = c.tie_fact-fact.ensures ∙ ap (tie_fact _) c.tie-tie.ensures in
-    let k = c.take_plainly-plain.auto in
-    let x = c.take_plainly-plain.new in
-    let plain_lent : Lent x.class x.kind x.rows = lent_still c.loop-i.invariant.1.lent k.class k.kind k.rows in
-    (omega (arith, c.loop-i-test.true), turn_plainly c.loop-i.invariant.1 plain_lent c.take_plainly-plain.ensures at_node c.if-plain.true)
-
--- a "no" leaves all as it was
-pub take_wholly-requires-clause-lent : goal.take_wholly-requires-clause-lent
-take_wholly-requires-clause-lent c =
-    let fits : WellFormed rule_wanted c.args.n c.args.v c.args.packet.now = rule_fits _ _ _ c.requires.packet_value in
-    let at_node : node_fact c.tie_fact-fact.result ≡ node_tie c.args.v c.args.packet.now c.loop-i.i = c.tie_fact-fact.ensures ∙ ap (tie_fact _) c.tie-tie.ensures in
-    let below : c.loop-i.i < ties c.args.packet.now = c.loop-i-test.true in
-    let in_range : InRange c.args.n (c.args.v + joints c.args.packet.now) (node_fact c.tie_fact-fact.result) = rw at_node (tie_range fits c.loop-i.i below) in
-    let k = c.take_plainly-plain.auto in
-    let x = c.take_plainly-plain.new in
-    let plain_lent : Lent x.class x.kind x.rows = lent_still c.loop-i.invariant.1.lent k.class k.kind k.rows in
-    (plain_lent, in_range)
-
-pub returns-then-not-take_wholly : goal.returns-then-not-take_wholly
-returns-then-not-take_wholly c =
-    let at_node : node_fact c.tie_fact-fact.result ≡ node_tie c.args.v c.args.packet.now c.loop-i.i = c.tie_fact-fact.ensures ∙ ap (tie_fact _) c.tie-tie.ensures in
-    let below : c.loop-i.i < ties c.args.packet.now = c.loop-i-test.true in
-    let k = c.take_plainly-plain.auto in
-    let x = c.take_plainly-plain.new in
-    let plain_lent : Lent x.class x.kind x.rows = lent_still c.loop-i.invariant.1.lent k.class k.kind k.rows in
-    let still = turn_still c.loop-i.invariant.1 plain_lent c.take_plainly-plain.ensures c.if-plain.false in
-    let m = c.take_wholly.auto in
-    let y = c.take_wholly.new in
-    let whole_lent : Lent y.class y.kind y.rows = lent_still plain_lent m.class m.kind m.rows in
-    let stops = turn_stops still whole_lent at_node c.take_wholly.ensures below c.if-not-take_wholly.true in
-    (rw (node_ties c.args.v c.args.packet.now) stops, λ e. absurd (false≢true e))
-
-pub loop-i-preserved : goal.loop-i-preserved
-loop-i-preserved c =
-    let fits : WellFormed rule_wanted c.args.n c.args.v c.args.packet.now = rule_fits _ _ _ c.requires.packet_value in
-    let at_node : node_fact c.tie_fact-fact.result ≡ node_tie c.args.v c.args.packet.now c.loop-i.i = c.tie_fact-fact.ensures ∙ ap (tie_fact _) c.tie-tie.ensures in
-    let below : c.loop-i.i < ties c.args.packet.now = c.loop-i-test.true in
-    let in_range : InRange c.args.n (c.args.v + joints c.args.packet.now) (node_fact c.tie_fact-fact.result) = rw at_node (tie_range fits c.loop-i.i below) in
-    let k = c.take_plainly-plain.auto in
-    let x = c.take_plainly-plain.new in
-    let plain_lent : Lent x.class x.kind x.rows = lent_still c.loop-i.invariant.1.lent k.class k.kind k.rows in
-    let still = turn_still c.loop-i.invariant.1 plain_lent c.take_plainly-plain.ensures c.if-plain.false in
-    let m = c.take_wholly.auto in
-    let y = c.take_wholly.new in
-    let whole_lent : Lent y.class y.kind y.rows = lent_still plain_lent m.class m.kind m.rows in
-    (omega arith, turn_wholly still whole_lent at_node c.take_wholly.ensures in_range c.if-not-take_wholly.false)
+pub take_all-requires-clause-in_range : goal.take_all-requires-clause-in_range
+take_all-requires-clause-in_range c = λ i f h e.
+    let is : node_fact f ≡ node_tie c.args.v c.args.packet.now i = search rules in
+    let fits : WellFormed rule_wanted c.args.table.n c.args.v c.args.packet.now = rule_fits _ _ _ c.requires.packet_value in
+    rw is (tie_range fits i h)
 
 pub returns : goal.returns
 returns c =
-    let l = c.loop-i.invariant in
-    (rw (node_ties c.args.v c.args.packet.now) (turn_ends l.1 (omega (arith, c.loop-i-test.false, l.0))), λ _. l.1.named)
+    let all = c.take_all.ensures.folded (node_tie c.args.v c.args.packet.now) (λ i f h e. search rules) in (
+      rw (node_ties c.args.v c.args.packet.now) (folded_took _ _ _ _ _ _ _ _ c.map_err.ensures.variant all),
+      on_ok_too _ _ _ c.map_err.ensures.variant c.take_all.ensures.named,
+    )

@@ -1,12 +1,9 @@
 -- `fitting::rises` meets its contract. At j, the bits in which the bytes below j differ from the numbers below j are gathered.
 -- Assumes nothing.
-use Rattle.std.proofs.Common.{◌≡◌, ◌-◌, ◌≤◌, length}
+use Rattle.std.proofs.Common.{length}
 use Rattle.runs.specs.Runs.{each}
 use Rattle.runs.proofs.Loops.{Comparing}
 use Rattle.fitting.proofs.rises.Given as goal
 
 abbrev pub invariant-loop-j : goal.invariant-loop-j
-invariant-loop-j l = (l.j ≤ l.j-end) × (l.j-end ≡ length l.part) × Comparing l.part (each (λ k. k) 0 (length l.part)) l.j l.any
-
-abbrev pub decreases-loop-j : goal.decreases-loop-j
-decreases-loop-j l = l.j-end - l.j
+invariant-loop-j l = Comparing l.part (each (λ k. k) 0 (length l.part)) l.j l.any

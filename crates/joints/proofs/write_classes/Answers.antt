@@ -1,21 +1,24 @@
 -- `joints::write_classes` meets its contract. At j, the class numbers below j are stored.
 -- Assumes nothing.
-use mathlib.Core.Path.{◌∙◌, sym}
-use mathlib.Core.Bool.{cond}
-use native.Mathlib.Omega.{arith}
-use lib.Dec.{ltb}
+use Rattle.std.proofs.Common.{◌<◌, ◌∙◌, arith}
 use Rattle.runs.proofs.Loops.{none_stored, stored, all_stored}
-use Rattle.runs.proofs.Each.{each_length, each_at}
+use Rattle.runs.proofs.Each.{each_length}
+use Rattle.joints.proofs.Fresh.{own_class, no_class}
 use Rattle.joints.proofs.write_classes.Goals as goal
+use Rattle.joints.proofs.write_classes.Goals.{then-j-v, else-j-v}
 
 pub loop-j-init : goal.loop-j-init
-loop-j-init c = (omega arith, none_stored (each_length _ 0 64) c.requires)
+loop-j-init c = none_stored (each_length _ 0 64) c.requires
 
 pub loop-j-preserved : goal.loop-j-preserved
-loop-j-preserved c = (
-  omega arith,
-  stored c.loop-j.invariant.1 (omega arith) (c.or_zero.ensures ∙ sym (each_at (λ k. cond (ltb k _) k 0) 64 _ (omega arith))),
-)
+loop-j-preserved c =
+    let l = c.loop-j.invariant in
+    let inside : c.loop-j.j < 64 = omega (arith, l.size, c.loop-j-test.true) in
+    stored l inside
+    (elim c.if-j-v.branch [
+      | then-j-v w ↦ w.class-is ∙ own_class _ _ inside w.if-j-v.true
+      | else-j-v w ↦ w.class-is ∙ no_class _ _ inside (omega (arith, w.if-j-v.false))
+    ])
 
 pub returns : goal.returns
-returns c = all_stored c.loop-j.invariant.1 (omega arith)
+returns c = all_stored c.loop-j.invariant (omega arith)

@@ -1,14 +1,12 @@
 -- `masks::masks` meets its contract: n / 8 times eight kinds, and those behind them.
 -- Assumes nothing.
-use mathlib.Core.Path.{◌≡◌, refl, sym}
+use mathlib.Core.Path.{◌≡◌}
 use Prim.Native.Nat.{◌-◌, ◌/◌}
-use native.Mathlib.Omega.{arith}
 use lib.ListN.{length}
-use borrow.Author.Rules.{rules}
 use Rattle.masks.proofs.masks.Given as goal
 
 abbrev pub invariant-loop-k : goal.invariant-loop-k
-invariant-loop-k l = (l.k-end ≡ l.n / 8) × (length l.all ≡ 64)
+invariant-loop-k l = (l.k-end ≡ l.table.n / 8) × (length l.all ≡ 64)
 
 abbrev pub decreases-loop-k : goal.decreases-loop-k
 decreases-loop-k l = l.k-end - l.k

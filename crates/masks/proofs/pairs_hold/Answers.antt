@@ -1,11 +1,16 @@
--- `masks::pairs_hold` meets its contract. At i, what is off in the rows below i is gathered.
+-- `masks::pairs_hold` meets its contract: the row of each kind passes.
 -- Assumes nothing.
-use Prim.Native.Nat.{ℕ, ◌-◌, ◌<◌}
-use native.Mathlib.Omega.{arith}
-use borrow.Author.Tests.{eqb-true}
+use Rattle.std.proofs.Common.{ℕ, ◌<◌, refl, rules, arith}
+use borrow.Author.Tests.{tests}
+use Rattle.std.proofs.lemmas.Iterator.{YieldsList-from_range, cases_from_all}
+use Rattle.kinds.specs.Tables.{meet_of}
 use Rattle.masks.specs.Masks.{Embedded}
-use Rattle.masks.proofs.Gather.{Gathered, none_gathered, gathered}
+use Rattle.masks.proofs.Chains.{each_passed}
 use Rattle.masks.proofs.pairs_hold.Goals as goal
 
-pub loop-i-preserved : goal.loop-i-preserved
-loop-i-preserved c = gathered c.loop-i.invariant c.row_off-off.ensures
+pub returns : goal.returns
+returns c =
+    let holds : ℕ → Type 0 = λ i. (j : ℕ) → j < i → Embedded (meet_of c.args.kinds.table) c.args.all.now i j in
+    each_passed holds (λ _. ℕ) _
+    (cases_from_all _ _ _ holds (λ _. ℕ) c.all.ensures.ran (YieldsList-from_range 0 c.args.kinds.table.n c.args.kinds.table.n refl (omega arith))
+    (λ x q k. search (rules, tests)) (λ x q k. 0))

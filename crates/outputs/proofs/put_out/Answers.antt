@@ -4,9 +4,7 @@ use mathlib.Core.Path.{sym, ap, ◌∙◌}
 use mathlib.Core.List.{List, ◌++◌}
 use Prim.Native.Nat.{ℕ}
 use lib.ListN.{length, drop}
-use lib.Seq.{length-take-le}
 use Rattle.outputs.proofs.Output.{too_short, has_room, none_put, all_put}
-use borrow.Author.Rules.{rules}
 use Rattle.outputs.proofs.put_out.Goals as goal
 
 pub returns-then-out-size : goal.returns-then-out-size
@@ -14,9 +12,7 @@ returns-then-out-size c = (sym (too_short _ _ c.if-out-size.true), none_put _ _ 
 
 pub returns : goal.returns
 returns c =
-    let copied = c in
-    let test = copied in
-    let a = test.args in (
-      sym (has_room _ _ test.if-out-size.false),
-      ap (λ (x : List ℕ). x ++ drop (length a.bytes.now) a.out.now) copied.copy.ensures ∙ all_put _ _ test.if-out-size.false,
+    let a = c.args in (
+      sym (has_room _ _ c.if-out-size.false),
+      ap (λ (x : List ℕ). x ++ drop (length a.bytes.now) a.out.now) c.copy_from_slice.ensures.after ∙ all_put _ _ c.if-out-size.false,
     )

@@ -7,11 +7,11 @@ use borrow.Author.Tests.{eqb-false}
 use Rattle.reach.specs.Reached.SmallestNot.{all, not_reached}
 use Rattle.reach.proofs.first_unmarked.Goals as goal
 
-pub returns-in-loop-j : goal.returns-in-loop-j
-returns-in-loop-j c =
+pub returns-then-not-has : goal.returns-then-not-has
+returns-then-not-has c =
     let l = c.loop-j in
     not_reached l.j c.loop-j-test.true
-    (eqb-false _ _ (sym c.is_marked.ensures ∙ c.if-is_marked.false)) l.invariant.1
+    (eqb-false _ _ (sym c.has.ensures ∙ c.if-not-has.true)) l.invariant.1
 
 pub returns : goal.returns
 returns c = all (λ j h. c.loop-j.invariant.1 j (omega arith))

@@ -6,7 +6,7 @@ use Rattle.reach.specs.Marking.{Marked}
 use Rattle.reach.proofs.first_unmarked.Given as goal
 
 abbrev pub invariant-loop-j : goal.invariant-loop-j
-invariant-loop-j l = (l.j ≤ l.joints) × ((k : ℕ) → k < l.j → Marked l.marks k)
+invariant-loop-j l = (l.j ≤ l.joints) × ((k : ℕ) → k < l.j → Marked l.marks.0 k)
 
 abbrev pub decreases-loop-j : goal.decreases-loop-j
 decreases-loop-j l = l.joints - l.j

@@ -1,10 +1,11 @@
--- `rigcheck::next_packet` meets its contract: a packet that is read on is not too long, its line fits, and what was read is the front of the input.
+-- `rigcheck::next_packet` meets its contract: a packet that is read on is not too long, and what was read is the front of the input.
 -- Assumes nothing.
 use Rattle.std.proofs.Common.{◌≡◌, ◌≤◌, sym, ◌∙◌, arith, length}
+use Rattle.std.proofs.KnownBytes.{Appends-nil}
 use Rattle.rigcheck.specs.Lines.{longest}
-use Rattle.rigcheck.proofs.Fits.{turn_fits}
 use Rattle.rigcheck.proofs.Steps.{packet_short}
 use Rattle.rigcheck.proofs.Fronts.{both_read, turn_on}
+use Rattle.rigcheck.proofs.next_packet.Goals.{in-Some+in_ok-print, in_default}
 use Rattle.rigcheck.proofs.next_packet.Goals as goal
 
 pub read_rest-requires : goal.read_rest-requires
@@ -14,9 +15,6 @@ read_rest-requires g c = λ size e.
 
 pub told-requires : goal.told-requires
 told-requires g c = λ size e. packet_short _ _ (sym c.next_step-step.ensures ∙ e)
-
-pub print-requires : goal.print-requires
-print-requires g c = turn_fits c.told.ensures
 
 pub returns : goal.returns
 returns g c =
@@ -31,5 +29,5 @@ returns g c =
     c.in_ok-got.ensures.bytes
     c.in_ok-rest.ensures.bytes
     c.told.ensures
-    c.in_ok-print.ensures
+    (elim c.match-told.branch [ in-Some+in_ok-print w ↦ rw (w.out-is, w.in-Some.is) w.in_ok-print.ensures | in_default w ↦ rw (w.out-is, w.in_default.is) (Appends-nil _) ])
     c.goes_on.ensures

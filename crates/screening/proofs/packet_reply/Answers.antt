@@ -1,6 +1,6 @@
 -- `screening::packet_reply` meets its contract: each test has the outcome of the definition's, in its order.
 -- Assumes nothing.
-use mathlib.Core.Path.{◌≡◌, sym, ap₂, ◌∙◌}
+use mathlib.Core.Path.{◌≡◌, sym, ◌∙◌}
 use mathlib.Core.Logic.{◌≢◌}
 use mathlib.Core.Bool.{true}
 use mathlib.Core.List.{List, [], ◌∷◌}
@@ -9,9 +9,8 @@ use native.Mathlib.Omega.{arith}
 use lib.Dec.{eqb}
 use borrow.Author.Tests.{eq-eqb, ne_eqb}
 use Rattle.replies.specs.declared.Cause.TheVariants.{BadVersion, BadHeader, BadCount}
-use Rattle.replies.specs.declared.Reply.{Reply}
-use Rattle.replies.specs.Replies.{unless, first_refusal}
-use Rattle.replies.proofs.Laws.{test_here, test_next}
+use Rattle.replies.specs.Replies.{unless, first_refusal, Reply}
+use Rattle.replies.proofs.Laws.{first_of_two, test_here, test_next}
 use Rattle.packets.specs.Packet.{byte, ties, joints}
 use Rattle.screening.specs.declared.Wanted.{Wanted}
 use Rattle.runs.specs.Runs.{within}
@@ -65,55 +64,53 @@ unfolding packet_reply
 returns-then-not-length_fits c =
     sym (test_here _ _ _ _ _ (sym c.length_fits.ensures ∙ c.if-not-length_fits.true))
 
-pub returns-then-byte_at-ne1 : goal.returns-then-byte_at-ne1
-returns-then-byte_at-ne1 c =
+pub returns-then-version-ne1 : goal.returns-then-version-ne1
+returns-then-version-ne1 c =
     let l1 = past_1 c.args.w c.args.n c.args.v c.args.packet.now (sym c.length_fits.ensures ∙ c.if-not-length_fits.false) in
-    let version : byte c.args.packet.now 2 ≢ 1 = λ e. omega (arith, c.byte_at.ensures.0, e) in
+    let version : byte c.args.packet.now 2 ≢ 1 = λ e. omega (arith, rw c.of-packet.ensures at c.version.ensures, e) in
     sym (l1 ∙ test_here _ _ _ _ _ (ne_eqb _ _ version))
 
-pub returns-then-byte_at-w : goal.returns-then-byte_at-w
-returns-then-byte_at-w c =
+pub returns-then-purpose-w : goal.returns-then-purpose-w
+returns-then-purpose-w c =
     let l1 = past_1 c.args.w c.args.n c.args.v c.args.packet.now (sym c.length_fits.ensures ∙ c.if-not-length_fits.false) in
-    let version : byte c.args.packet.now 2 ≡ 1 = omega arith in
+    let version : byte c.args.packet.now 2 ≡ 1 = omega (arith, rw c.of-packet.ensures at c.version.ensures) in
     let l2 = past_2 c.args.w c.args.n c.args.v c.args.packet.now l1 (eq-eqb _ _ version) in
-    sym (l2 ∙ test_here _ _ _ _ _ (ne_eqb _ _ (λ e. c.if-byte_at-w.true (c.byte_at-2.ensures.0 ∙ e))))
+    sym (l2 ∙ test_here _ _ _ _ _ (ne_eqb _ _ (λ e. c.if-purpose-w.true (rw c.of-packet.ensures at c.purpose.ensures ∙ e))))
 
-pub returns-then-not-in_range : goal.returns-then-not-in_range
-returns-then-not-in_range c =
+pub returns-then-not-has : goal.returns-then-not-has
+returns-then-not-has c =
     let l1 = past_1 c.args.w c.args.n c.args.v c.args.packet.now (sym c.length_fits.ensures ∙ c.if-not-length_fits.false) in
-    let version : byte c.args.packet.now 2 ≡ 1 = omega arith in
+    let version : byte c.args.packet.now 2 ≡ 1 = omega (arith, rw c.of-packet.ensures at c.version.ensures) in
     let l2 = past_2 c.args.w c.args.n c.args.v c.args.packet.now l1 (eq-eqb _ _ version) in
-    let l3 = past_3 c.args.w c.args.n c.args.v c.args.packet.now l2 (eq-eqb _ _ (sym c.byte_at-2.ensures.0 ∙ c.if-byte_at-w.false)) in
-    sym (l3 ∙ test_here _ _ _ _ _ (rw c.byte_at-3.ensures.0 at (sym c.in_range.ensures ∙ c.if-not-in_range.true)))
+    let l3 = past_3 c.args.w c.args.n c.args.v c.args.packet.now l2 (eq-eqb _ _ (rw c.of-packet.ensures at (sym c.purpose.ensures ∙ c.if-purpose-w.false))) in
+    sym (l3 ∙ test_here _ _ _ _ _ (rw (c.tie_count.ensures.0, c.of-packet.ensures) at (sym c.has.ensures ∙ c.if-not-has.true)))
 
-pub returns-then-not-in_range-2 : goal.returns-then-not-in_range-2
-returns-then-not-in_range-2 c =
+pub returns-then-not-has-2 : goal.returns-then-not-has-2
+returns-then-not-has-2 c =
     let l1 = past_1 c.args.w c.args.n c.args.v c.args.packet.now (sym c.length_fits.ensures ∙ c.if-not-length_fits.false) in
-    let version : byte c.args.packet.now 2 ≡ 1 = omega arith in
+    let version : byte c.args.packet.now 2 ≡ 1 = omega (arith, rw c.of-packet.ensures at c.version.ensures) in
     let l2 = past_2 c.args.w c.args.n c.args.v c.args.packet.now l1 (eq-eqb _ _ version) in
-    let l3 = past_3 c.args.w c.args.n c.args.v c.args.packet.now l2 (eq-eqb _ _ (sym c.byte_at-2.ensures.0 ∙ c.if-byte_at-w.false)) in
-    let l4 = past_4 c.args.w c.args.n c.args.v c.args.packet.now l3 (rw c.byte_at-3.ensures.0 at (sym c.in_range.ensures ∙ c.if-not-in_range.false)) in
-    sym (l4 ∙ test_here _ _ _ _ _ (rw c.byte_at-4.ensures.0 at (sym c.in_range-2.ensures ∙ c.if-not-in_range-2.true)))
+    let l3 = past_3 c.args.w c.args.n c.args.v c.args.packet.now l2 (eq-eqb _ _ (rw c.of-packet.ensures at (sym c.purpose.ensures ∙ c.if-purpose-w.false))) in
+    let l4 = past_4 c.args.w c.args.n c.args.v c.args.packet.now l3 (rw (c.tie_count.ensures.0, c.of-packet.ensures) at (sym c.has.ensures ∙ c.if-not-has.false)) in
+    sym (l4 ∙ test_here _ _ _ _ _ (rw (c.joint_count.ensures.0, c.of-packet.ensures) at (sym c.has-2.ensures ∙ c.if-not-has-2.true)))
 
 pub returns-then-not-count_fits : goal.returns-then-not-count_fits
 returns-then-not-count_fits c =
     let l1 = past_1 c.args.w c.args.n c.args.v c.args.packet.now (sym c.length_fits.ensures ∙ c.if-not-length_fits.false) in
-    let version : byte c.args.packet.now 2 ≡ 1 = omega arith in
+    let version : byte c.args.packet.now 2 ≡ 1 = omega (arith, rw c.of-packet.ensures at c.version.ensures) in
     let l2 = past_2 c.args.w c.args.n c.args.v c.args.packet.now l1 (eq-eqb _ _ version) in
-    let l3 = past_3 c.args.w c.args.n c.args.v c.args.packet.now l2 (eq-eqb _ _ (sym c.byte_at-2.ensures.0 ∙ c.if-byte_at-w.false)) in
-    let l4 = past_4 c.args.w c.args.n c.args.v c.args.packet.now l3 (rw c.byte_at-3.ensures.0 at (sym c.in_range.ensures ∙ c.if-not-in_range.false)) in
-    let l5 = past_5 c.args.w c.args.n c.args.v c.args.packet.now l4 (rw c.byte_at-4.ensures.0 at (sym c.in_range-2.ensures ∙ c.if-not-in_range-2.false)) in
-    sym (l5 ∙ test_here _ _ _ _ _ (sym c.count_fits.ensures ∙ c.if-not-count_fits.true))
+    let l3 = past_3 c.args.w c.args.n c.args.v c.args.packet.now l2 (eq-eqb _ _ (rw c.of-packet.ensures at (sym c.purpose.ensures ∙ c.if-purpose-w.false))) in
+    let l4 = past_4 c.args.w c.args.n c.args.v c.args.packet.now l3 (rw (c.tie_count.ensures.0, c.of-packet.ensures) at (sym c.has.ensures ∙ c.if-not-has.false)) in
+    let l5 = past_5 c.args.w c.args.n c.args.v c.args.packet.now l4 (rw (c.joint_count.ensures.0, c.of-packet.ensures) at (sym c.has-2.ensures ∙ c.if-not-has-2.false)) in
+    sym (l5 ∙ test_here _ _ _ _ _ (rw c.of-packet.ensures at (sym c.count_fits.ensures ∙ c.if-not-count_fits.true)))
 
 pub returns : goal.returns
 returns c =
     let l1 = past_1 c.args.w c.args.n c.args.v c.args.packet.now (sym c.length_fits.ensures ∙ c.if-not-length_fits.false) in
-    let version : byte c.args.packet.now 2 ≡ 1 = omega arith in
+    let version : byte c.args.packet.now 2 ≡ 1 = omega (arith, rw c.of-packet.ensures at c.version.ensures) in
     let l2 = past_2 c.args.w c.args.n c.args.v c.args.packet.now l1 (eq-eqb _ _ version) in
-    let l3 = past_3 c.args.w c.args.n c.args.v c.args.packet.now l2 (eq-eqb _ _ (sym c.byte_at-2.ensures.0 ∙ c.if-byte_at-w.false)) in
-    let l4 = past_4 c.args.w c.args.n c.args.v c.args.packet.now l3 (rw c.byte_at-3.ensures.0 at (sym c.in_range.ensures ∙ c.if-not-in_range.false)) in
-    let l5 = past_5 c.args.w c.args.n c.args.v c.args.packet.now l4 (rw c.byte_at-4.ensures.0 at (sym c.in_range-2.ensures ∙ c.if-not-in_range-2.false)) in
-    let l6 = past_6 c.args.w c.args.n c.args.v c.args.packet.now l5 (sym c.count_fits.ensures ∙ c.if-not-count_fits.false) in
-    c.first_of.ensures
-    ∙ ap₂ (λ (ties facts : Reply). first_refusal (ties ∷ []) facts) c.first_bad_tie-ties.ensures c.first_bad_fact-facts.ensures
-    ∙ sym l6
+    let l3 = past_3 c.args.w c.args.n c.args.v c.args.packet.now l2 (eq-eqb _ _ (rw c.of-packet.ensures at (sym c.purpose.ensures ∙ c.if-purpose-w.false))) in
+    let l4 = past_4 c.args.w c.args.n c.args.v c.args.packet.now l3 (rw (c.tie_count.ensures.0, c.of-packet.ensures) at (sym c.has.ensures ∙ c.if-not-has.false)) in
+    let l5 = past_5 c.args.w c.args.n c.args.v c.args.packet.now l4 (rw (c.joint_count.ensures.0, c.of-packet.ensures) at (sym c.has-2.ensures ∙ c.if-not-has-2.false)) in
+    let l6 = past_6 c.args.w c.args.n c.args.v c.args.packet.now l5 (rw c.of-packet.ensures at (sym c.count_fits.ensures ∙ c.if-not-count_fits.false)) in
+    rw c.of-packet.ensures at (first_of_two c.first_bad_tie.ensures c.first_bad_fact.ensures c.and.ensures) ∙ sym l6

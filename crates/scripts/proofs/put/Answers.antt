@@ -34,7 +34,7 @@ loop-i-init g c = (omega arith, omega (arith, c.in_ok-i-end.ensures.done), omega
 pub loop-i-preserved : goal.loop-i-preserved
 loop-i-preserved g c =
     let l = c.loop-i in
-    let from = c.args.bytes.room in
+    let from = c.args.bytes.now.room in
     let q : c.number.result + l.i - 2 ≡ c.number.result + (l.i - 2) =
     omega (arith, l.invariant.0) in
     let at : c.in_ok-at.at ≡ inside_of (number_at from 0 + (l.i - 2)) =
@@ -43,7 +43,7 @@ loop-i-preserved g c =
       omega (arith, l.invariant.0),
       l.invariant.1,
       omega (arith, l.invariant.0),
-      c.set-more.ensures ∙ one_more from _ l.invariant.0 l.invariant.3 at c.byte.ensures.0,
+      c.set.ensures ∙ one_more from _ l.invariant.0 l.invariant.3 at c.byte.ensures.0,
     )
 
 pub returns-clause-done : goal.returns-clause-done

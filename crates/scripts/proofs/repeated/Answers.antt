@@ -41,7 +41,7 @@ loop-i-preserved c =
       omega (arith, l.invariant.0),
       l.invariant.1,
       omega (arith, l.invariant.0),
-      c.set-more.ensures ∙ one_more _ _ l.invariant.0 l.invariant.3 c.byte-step.ensures.0 c.byte.ensures.0,
+      c.set.ensures ∙ one_more _ _ l.invariant.0 l.invariant.3 c.byte-step.ensures.0 c.byte.ensures.0,
     )
 
 pub returns : goal.returns

@@ -2,12 +2,9 @@
 -- Assumes nothing.
 use mathlib.Core.Path.{◌≡◌}
 use mathlib.Core.List.{List}
-use Prim.Native.Nat.{ℕ, ◌-◌, ◌≤◌}
+use Prim.Native.Nat.{ℕ, ◌≤◌}
 use Rattle.meaning.specs.Form.{list_form, classes}
 use Rattle.solver.proofs.classes_in.Given as goal
 
 abbrev pub invariant-loop-j : goal.invariant-loop-j
 invariant-loop-j l = (l.j ≤ l.v) × ((kind rows : List ℕ) → l.count ≡ classes (list_form l.class kind rows) l.j)
-
-abbrev pub decreases-loop-j : goal.decreases-loop-j
-decreases-loop-j l = l.v - l.j

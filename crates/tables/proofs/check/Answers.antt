@@ -6,4 +6,4 @@ use Rattle.tables.proofs.Lawfulness.{lawful_passes}
 use Rattle.tables.proofs.check.Goals as goal
 
 pub returns-then-lawful : goal.returns-then-lawful
-returns-then-lawful c = sym (lawful_passes _ _ (omega (arith, c.requires.low)) (c.lawful.ensures c.if-lawful.true))
+returns-then-lawful c = sym (lawful_passes _ _ (omega (arith, c.args.table.sized.low)) (c.lawful.ensures c.if-lawful.true))

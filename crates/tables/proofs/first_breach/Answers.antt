@@ -2,33 +2,32 @@
 -- Assumes nothing.
 use mathlib.Core.Path.{◌∙◌, sym}
 use Rattle.tables.specs.Check.{entries, singles}
-use Rattle.replies.proofs.Laws.{tested}
+use Rattle.replies.proofs.Laws.{went_on, stopped, handed_back}
 use Rattle.tables.proofs.Scan.{first_of, second_of}
 use Rattle.tables.proofs.Lawfulness.{passes_kept, kept_entries, passes_done}
 use Rattle.tables.proofs.first_breach.Goals as goal
 
-pub returns-then-is_refusal : goal.returns-then-is_refusal
-returns-then-is_refusal c = c.first_entry-entry.ensures ∙ sym (first_of _ _ (entries _) _ (tested c.first_entry-entry.ensures c.is_refusal.ensures c.if-is_refusal.true))
+pub returns-in_err-first_entry : goal.returns-in_err-first_entry
+returns-in_err-first_entry c =
+    handed_back c.first_entry.ensures c.in_err-first_entry.was c.from_residual.ensures.1
+    ∙ sym (first_of _ _ (entries _) _ (stopped c.first_entry.ensures c.in_err-first_entry.was))
 
-pub first_single-single-requires-clause-fact_2 : goal.first_single-single-requires-clause-fact_2
-first_single-single-requires-clause-fact_2 c =
-    (kept_entries _ _).0 (passes_kept _ _ (entries _) (tested c.first_entry-entry.ensures c.is_refusal.ensures c.if-is_refusal.false))
+pub invariant_of-kinds : goal.invariant_of-kinds
+invariant_of-kinds c =
+    record { kinds = (kept_entries _ _).0 (passes_kept _ _ (entries _) (went_on c.first_entry.ensures c.in_ok-first_entry.was)) }
 
-pub returns-then-is_refusal-2 : goal.returns-then-is_refusal-2
-returns-then-is_refusal-2 c =
-    let passed = tested c.first_entry-entry.ensures c.is_refusal.ensures c.if-is_refusal.false in
-    c.first_single-single.ensures
+pub returns-in_err-first_single : goal.returns-in_err-first_single
+returns-in_err-first_single c =
+    let passed = went_on c.first_entry.ensures c.in_ok-first_entry.was in
+    handed_back c.first_single.ensures c.in_err-first_single.was c.from_residual-in_err-first_single.ensures.1
     ∙ sym (second_of _ _ (entries _) _ passed
-    ∙ first_of _ _ (singles _) _ (tested c.first_single-single.ensures c.is_refusal-2.ensures c.if-is_refusal-2.true))
+    ∙ first_of _ _ (singles _) _ (stopped c.first_single.ensures c.in_err-first_single.was))
 
-pub first_several-requires-clause-fact_2 : goal.first_several-requires-clause-fact_2
-first_several-requires-clause-fact_2 c = (
-  passes_done _ _ (entries _) (tested c.first_entry-entry.ensures c.is_refusal.ensures c.if-is_refusal.false),
-  passes_done _ _ (singles _) (tested c.first_single-single.ensures c.is_refusal-2.ensures c.if-is_refusal-2.false),
-)
+pub first_several-requires : goal.first_several-requires
+first_several-requires c = passes_done _ _ (singles _) (went_on c.first_single.ensures c.in_ok-first_single.was)
 
 pub returns : goal.returns
 returns c =
-    let entries_pass = tested c.first_entry-entry.ensures c.is_refusal.ensures c.if-is_refusal.false in
-    let singles_pass = tested c.first_single-single.ensures c.is_refusal-2.ensures c.if-is_refusal-2.false in
+    let entries_pass = went_on c.first_entry.ensures c.in_ok-first_entry.was in
+    let singles_pass = went_on c.first_single.ensures c.in_ok-first_single.was in
     c.first_several.ensures ∙ sym (second_of _ _ (entries _) _ entries_pass ∙ second_of _ _ (singles _) _ singles_pass)

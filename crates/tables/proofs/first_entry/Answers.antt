@@ -10,19 +10,19 @@ use Rattle.tables.proofs.first_entry.Goals as goal
 
 pub loop-p-init : goal.loop-p-init
 unfolding entries
-loop-p-init c = (omega arith, c.requires.size, begins _ _ _ _)
+loop-p-init c = (omega arith, c.args.table.sized.size, begins _ _ _ _)
 
 pub loop-p-preserved : goal.loop-p-preserved
 unfolding law_reply
 loop-p-preserved c = let l = c.loop-p in
     let s = c.args in
-    (omega arith, l.invariant.1, kept l.invariant.2 (omega arith) refl (passed _ _ (lt-ltb (get_or s.table.now l.p 0) s.n (omega arith))))
+    (omega arith, l.invariant.1, kept l.invariant.2 (omega arith) refl (passed _ _ (lt-ltb (get_or s.table.entries.now l.p 0) s.table.n (omega arith))))
 
-pub returns-then-n-wide : goal.returns-then-n-wide
+pub returns-then-table-from : goal.returns-then-table-from
 unfolding law_reply
-returns-then-n-wide c = let l = c.loop-p in
+returns-then-table-from c = let l = c.loop-p in
     let s = c.args in
-    sym (broken l.invariant.2 (omega arith) refl (failed _ _ (le-ltb (get_or s.table.now l.p 0) s.n (omega arith))))
+    sym (broken l.invariant.2 (omega arith) refl (failed _ _ (le-ltb (get_or s.table.entries.now l.p 0) s.table.n (omega arith))))
 
-pub returns-after-loop-p : goal.returns-after-loop-p
-returns-after-loop-p c = sym (closes c.loop-p.invariant.2 (omega arith) ∙ no_more _ _)
+pub returns : goal.returns
+returns c = sym (closes c.loop-p.invariant.2 (omega arith) ∙ no_more _ _)

@@ -3,7 +3,7 @@
 use mathlib.Core.Path.{refl, sym, ◌∙◌}
 use native.Mathlib.Omega.{arith}
 use Rattle.tables.specs.Check.{law_reply, pairs}
-use Rattle.tables.proofs.Scan.{begins, opens, equal, unequal, kept, broken, closes, no_more, told}
+use Rattle.tables.proofs.Scan.{begins, opens, equal, unequal, kept, broken, closes, no_more}
 use Rattle.tables.proofs.first_pair.Goals as goal
 
 pub loop-i-init : goal.loop-i-init
@@ -26,9 +26,9 @@ loop-i-preserved c = (omega arith, record { is = closes c.loop-j.invariant.1 c.l
 
 pub returns-then-kind_at : goal.returns-then-kind_at
 unfolding law_reply
-returns-then-kind_at c = told c.offset.ensures
-    (broken c.loop-j.invariant.1 c.loop-j-test.true refl
+returns-then-kind_at c = c.broken.ensures
+    ∙ sym (broken c.loop-j.invariant.1 c.loop-j-test.true refl
     (unequal _ _ (λ e. c.if-kind_at.true (c.kind_at.ensures.0 ∙ e ∙ sym c.kind_at-in-loop-j.ensures.0))))
 
-pub returns-after-loop-i : goal.returns-after-loop-i
-returns-after-loop-i c = sym (closes c.loop-i.invariant.1 c.loop-i-test.false ∙ no_more _ _)
+pub returns : goal.returns
+returns c = sym (closes c.loop-i.invariant.1 c.loop-i-test.false ∙ no_more _ _)

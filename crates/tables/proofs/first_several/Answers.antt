@@ -3,26 +3,20 @@
 -- Assumes nothing.
 use mathlib.Core.Path.{◌∙◌, sym}
 use Rattle.tables.specs.Check.{pairs}
-use Rattle.replies.proofs.Laws.{tested}
+use Rattle.replies.proofs.Laws.{went_on, stopped, handed_back}
 use Rattle.tables.proofs.Scan.{first_of, second_of}
 use Rattle.tables.proofs.Lawfulness.{passes_done}
-use Rattle.tables.proofs.Triples.{entries_kinds, same_reply}
+use Rattle.tables.proofs.Triples.{kinds_entries, same_reply}
 use Rattle.tables.proofs.first_several.Goals as goal
 
-pub first_pair-pair-requires-clause-fact_2 : goal.first_pair-pair-requires-clause-fact_2
-first_pair-pair-requires-clause-fact_2 c = entries_kinds _ _ c.requires.fact_2.0
-
-pub returns-then-is_refusal : goal.returns-then-is_refusal
-returns-then-is_refusal c = c.first_pair-pair.ensures
-    ∙ sym (first_of _ _ (pairs _) _ (tested c.first_pair-pair.ensures c.is_refusal.ensures c.if-is_refusal.true))
-
-pub first_triple-requires-clause-fact_2 : goal.first_triple-requires-clause-fact_2
-first_triple-requires-clause-fact_2 c = entries_kinds _ _ c.requires.fact_2.0
+pub returns-in_err-first_pair : goal.returns-in_err-first_pair
+returns-in_err-first_pair c =
+    handed_back c.first_pair.ensures c.in_err-first_pair.was c.from_residual.ensures.1
+    ∙ sym (first_of _ _ (pairs _) _ (stopped c.first_pair.ensures c.in_err-first_pair.was))
 
 pub returns : goal.returns
 returns c =
-    let p = c.requires in
-    let passed = tested c.first_pair-pair.ensures c.is_refusal.ensures c.if-is_refusal.false in
+    let passed = went_on c.first_pair.ensures c.in_ok-first_pair.was in
     c.first_triple.ensures
     ∙ sym (second_of _ _ (pairs _) _ passed
-    ∙ same_reply (record { entries_hold = p.fact_2.0; singles_hold = p.fact_2.1; pairs_hold = passes_done _ _ (pairs _) passed }))
+    ∙ same_reply (record { entries_hold = kinds_entries _ _ c.args.kinds.kinds; singles_hold = c.requires; pairs_hold = passes_done _ _ (pairs _) passed }))

@@ -4,15 +4,15 @@
 use mathlib.Core.Path.{sym, ap, ◌∙◌}
 use native.Mathlib.Omega.{arith}
 use Rattle.replies.specs.Replies.{refuses}
-use Rattle.tables.proofs.Scan.{passed, failed, kept, broken, closes, told}
+use Rattle.tables.proofs.Scan.{passed, failed, kept, broken, closes}
 use Rattle.tables.proofs.LookedAt.{first_loop, first_ends, middle_loop, last_loop, one_law}
 use Rattle.tables.proofs.first_triple.Goals as goal
 
 pub loop-i-init : goal.loop-i-init
-loop-i-init c = (omega arith, omega (arith, c.requires.fact_1.low), first_loop _ _ c.requires.fact_1.low)
+loop-i-init c = (omega arith, omega (arith, c.args.kinds.table.sized.low), first_loop _ _ c.args.kinds.table.sized.low)
 
 pub loop-j-init : goal.loop-j-init
-loop-j-init c = (omega arith, middle_loop c.loop-i.invariant.2 c.requires.fact_1.low (omega arith))
+loop-j-init c = (omega arith, middle_loop c.loop-i.invariant.2 c.args.kinds.table.sized.low (omega arith))
 
 pub loop-k-init : goal.loop-k-init
 loop-k-init c = (omega arith, last_loop c.loop-j.invariant.1 (omega arith) (omega arith))
@@ -32,8 +32,8 @@ loop-i-preserved c = (omega arith, c.loop-i.invariant.1, record { is = closes c.
 
 pub returns-then-not-groups : goal.returns-then-not-groups
 returns-then-not-groups c = let at = c.loop-k.invariant in
-    told c.offset.ensures
-    (broken at.1 (omega arith) (one_law c.loop-i.invariant.0 c.loop-j.invariant.0 at.0)
+    c.broken.ensures
+    ∙ sym (broken at.1 (omega arith) (one_law c.loop-i.invariant.0 c.loop-j.invariant.0 at.0)
     (c.groups.ensures ∙ failed _ _ c.if-not-groups.true))
 
 pub returns-after-loop-i : goal.returns-after-loop-i

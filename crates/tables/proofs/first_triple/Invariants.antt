@@ -3,8 +3,8 @@
 -- Assumes nothing.
 use mathlib.Core.Path.{◌≡◌}
 use mathlib.Core.List.{[], ◌++◌}
-use Prim.Native.Nat.{◌+◌, ◌-◌, ◌<◌, ◌≤◌}
-use Rattle.tables.specs.Check.{first_breach}
+use Prim.Native.Nat.{◌+◌, ◌<◌, ◌≤◌}
+use Rattle.tables.specs.Check.{breach_of}
 use Rattle.tables.specs.Triples.{to_look_at, triples_meant}
 use Rattle.tables.proofs.Scan.{Loop, rest}
 use Rattle.tables.proofs.LookedAt.{with_first, with_middle, with_last}
@@ -12,24 +12,12 @@ use Rattle.tables.proofs.first_triple.Given as goal
 
 abbrev pub invariant-loop-k : goal.invariant-loop-k
 invariant-loop-k l = (l.i < l.k)
-    × Loop l.n l.table (first_breach l.n l.table (triples_meant to_look_at l.n)) (with_last l.i l.j) l.k l.n
+    × Loop l.n l.kinds.table.entries.now (breach_of l.kinds.table (triples_meant to_look_at)) (with_last l.i l.j) l.k l.n
     (rest (with_middle l.n l.i) (l.j + 1) l.n ++ (rest (with_first l.n) (l.i + 1) l.n ++ []))
-
-abbrev pub decreases-loop-k : goal.decreases-loop-k
-decreases-loop-k l = l.n - l.k
 
 abbrev pub invariant-loop-j : goal.invariant-loop-j
 invariant-loop-j l = (2 ≤ l.j)
-    × Loop l.n l.table (first_breach l.n l.table (triples_meant to_look_at l.n)) (with_middle l.n l.i) l.j l.n (rest (with_first l.n) (l.i + 1) l.n ++ [])
-
-abbrev pub decreases-loop-j : goal.decreases-loop-j
-decreases-loop-j l = l.n - l.j
+    × Loop l.n l.kinds.table.entries.now (breach_of l.kinds.table (triples_meant to_look_at)) (with_middle l.n l.i) l.j l.n (rest (with_first l.n) (l.i + 1) l.n ++ [])
 
 abbrev pub invariant-loop-i : goal.invariant-loop-i
-invariant-loop-i l = (2 ≤ l.i) × (l.i-end + 1 ≡ l.n) × Loop l.n l.table (first_breach l.n l.table (triples_meant to_look_at l.n)) (with_first l.n) l.i l.n []
-
-abbrev pub decreases-loop-i : goal.decreases-loop-i
-decreases-loop-i l = l.i-end - l.i
-
-abbrev pub decreases-triples : goal.decreases-triples
-decreases-triples l = 0
+invariant-loop-i l = (2 ≤ l.i) × (l.i-end + 1 ≡ l.n) × Loop l.n l.kinds.table.entries.now (breach_of l.kinds.table (triples_meant to_look_at)) (with_first l.n) l.i l.n []

@@ -23,5 +23,5 @@ sides n table i j k e f p q =
 pub returns : goal.returns
 returns c =
     let a = c.args in
-    sides a.n a.table.now a.i a.j a.k c.requires.fact_4 c.kind_at-jk.ensures.0
+    sides a.kinds.table.n a.kinds.table.entries.now a.i a.j a.k c.requires.met c.kind_at-jk.ensures.0
     c.kind_at.ensures.0 c.kind_at-2.ensures.0

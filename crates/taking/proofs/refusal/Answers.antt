@@ -1,38 +1,21 @@
 -- `taking::refusal` meets its contract: the reply to the block, and where that does not refuse the reply to the packet.
 -- Assumes nothing.
-use mathlib.Core.Path.{◌≡◌, sym, ap₂, ◌∙◌}
-use mathlib.Core.Bool.{false}
+use mathlib.Core.Path.{refl, sym, ap, ap₂, ◌∙◌}
 use Prim.Native.Nat.{ℕ}
-use native.Mathlib.Omega.{arith}
-use Rattle.replies.specs.Replies.{refuses}
-use Rattle.replies.proofs.Laws.{tested}
+use Rattle.replies.proofs.Laws.{went_on, stopped, handed_back}
 use Rattle.screening.specs.Screening.{packet_reply, facts_wanted}
-use Rattle.blocks.specs.WellFormed.{block_reply}
-use Rattle.blocks.proofs.Shape.{GoodBlock, good_block}
+use Rattle.joints.specs.Layout.{kinds_of, joints_of}
 use Rattle.taking.proofs.Taking.{block_refuses, packet_decides}
 use Rattle.taking.proofs.refusal.Goals as goal
 
-pub returns-then-is_refusal : goal.returns-then-is_refusal
-returns-then-is_refusal c =
-    let e = c.block_reply-lent.ensures in
-    e ∙ sym (block_refuses _ _ (tested e c.is_refusal.ensures c.if-is_refusal.true))
-
-pub kind_count-requires : goal.kind_count-requires
-kind_count-requires c =
-    let not_refused : refuses (block_reply c.args.block.now) ≡ false = tested c.block_reply-lent.ensures c.is_refusal.ensures c.if-is_refusal.false in
-    let good : GoodBlock c.args.block.now = good_block _ not_refused in
-    omega (arith, good.size)
-
-pub joint_count-requires : goal.joint_count-requires
-joint_count-requires c =
-    let not_refused : refuses (block_reply c.args.block.now) ≡ false = tested c.block_reply-lent.ensures c.is_refusal.ensures c.if-is_refusal.false in
-    let good : GoodBlock c.args.block.now = good_block _ not_refused in
-    omega (arith, good.size)
+pub returns-in_err-block : goal.returns-in_err-block
+returns-in_err-block c =
+    handed_back refl c.in_err-block.ensures c.from_residual.ensures.1 ∙ sym (block_refuses _ _ (stopped refl c.in_err-block.ensures))
 
 pub returns : goal.returns
 returns c =
-    let not_refused : refuses (block_reply c.args.block.now) ≡ false = tested c.block_reply-lent.ensures c.is_refusal.ensures c.if-is_refusal.false in
+    let b = c.in_ok-block.ensures in
     let p = c.args.packet.now in
     c.facts_reply.ensures
-    ∙ ap₂ (λ (n v : ℕ). packet_reply (facts_wanted v) n v p) c.kind_count.ensures c.joint_count.ensures
-    ∙ sym (packet_decides _ _ not_refused)
+    ∙ ap₂ (λ (n v : ℕ). packet_reply (facts_wanted v) n v p) (c.kind_count.ensures.count ∙ ap kinds_of b.0) (c.joint_count.ensures.count ∙ ap joints_of b.0)
+    ∙ sym (packet_decides _ _ (went_on refl b.1))

@@ -3,8 +3,8 @@
 use Rattle.term_reading.proofs.Facts.{lead_none, lead_fact}
 use Rattle.term_reading.proofs.put_lead.Goals as goal
 
-pub returns-in-Outermost : goal.returns-in-Outermost
-returns-in-Outermost c = let a = c.args in lead_none a.joint a.i a.to.now c.in-Outermost.is
+pub returns-in-None : goal.returns-in-None
+returns-in-None c = let a = c.args in lead_none a.joint a.i a.packet.now c.in-None.is
 
-pub returns-in-Argument : goal.returns-in-Argument
-returns-in-Argument c = lead_fact _ _ _ c.in-Argument.is c.put_fact.ensures
+pub returns-in-Some : goal.returns-in-Some
+returns-in-Some c = lead_fact _ _ _ c.in-Some.is c.put_fact.ensures

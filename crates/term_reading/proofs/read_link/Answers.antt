@@ -1,41 +1,38 @@
 -- `term_reading::read_link` meets its contract: a missing digit or sign is where nothing can continue the text.
 -- Assumes nothing.
-use mathlib.Core.Path.{sym, ◌∙◌}
+use mathlib.Core.Path.{sym, subst}
+use Rattle.terms.specs.Language.{NoTerm}
 use Rattle.term_reading.proofs.Contexts.{stuck_at_link, stuck_at_equals, stuck_at_greater}
-use Rattle.term_reading.proofs.Steps.{link_step}
+use Rattle.term_reading.proofs.Steps.{handed_on, link_step}
 use Rattle.term_reading.proofs.read_link.Goals as goal
 
-pub returns-then-byte_or_end-ne-EQUALS : goal.returns-then-byte_or_end-ne-EQUALS
-returns-then-byte_or_end-ne-EQUALS c =
+pub returns-in_err-link : goal.returns-in_err-link
+returns-in_err-link c =
     let a = c.args in
-    let number = c.in-Is.ensures.is in
-    record {
-      is = λ around w. stuck_at_equals a.text.now around a.from.at w _ _ number (λ e. c.if-byte_or_end-ne-EQUALS.true (c.byte_or_end.ensures ∙ e));
-    }
+    let missing = c.in_err-link.ensures.is in
+    handed_on _ c.from_residual.ensures.1
+    (λ around w. subst (NoTerm a.text.now) (sym missing.1) (stuck_at_link a.text.now around a.from.at w c.requires.inside missing.0))
 
-pub returns-then-byte_or_end-ne-GREATER : goal.returns-then-byte_or_end-ne-GREATER
-returns-then-byte_or_end-ne-GREATER c =
+pub returns-in_err-expect_sign : goal.returns-in_err-expect_sign
+returns-in_err-expect_sign c =
     let a = c.args in
-    let number = c.in-Is.ensures.is in
+    let missing = c.in_err-expect_sign.ensures in
+    handed_on _ c.from_residual-in_err-expect_sign.ensures.1
+    (λ around w. subst (NoTerm a.text.now) (sym missing.1) (stuck_at_equals a.text.now around a.from.at w _ _ c.in_ok-link.ensures.is missing.0))
+
+pub returns-in_err-expect_sign-2 : goal.returns-in_err-expect_sign-2
+returns-in_err-expect_sign-2 c =
+    let a = c.args in
+    let missing = c.in_err-expect_sign-2.ensures in
+    handed_on _ c.from_residual-in_err-expect_sign-2.ensures.1
+    (λ around w.
+    subst (NoTerm a.text.now) (sym missing.1)
+    (stuck_at_greater a.text.now around a.from.at w _ _ c.in_ok-link.ensures.is c.in_ok-expect_sign.ensures missing.0))
+
+pub returns : goal.returns
+returns c =
     record {
       is =
-          λ around w.
-          stuck_at_greater a.text.now around a.from.at w _ _ number (sym c.byte_or_end.ensures ∙ c.if-byte_or_end-ne-EQUALS.false)
-          (λ e. c.if-byte_or_end-ne-GREATER.true (c.byte_or_end-in-Is.ensures ∙ e));
-    }
-
-pub returns-in-Missing : goal.returns-in-Missing
-returns-in-Missing c =
-    let a = c.args in
-    record {
-      is = λ around w. stuck_at_link a.text.now around a.from.at w c.requires.0.inside c.in-Missing.ensures.is;
-    }
-
-pub returns-else-byte_or_end-ne-GREATER : goal.returns-else-byte_or_end-ne-GREATER
-returns-else-byte_or_end-ne-GREATER c =
-    let number = c.in-Is.ensures.is in
-    record {
-      is =
-          link_step c.args.text.now c.args.from c.requires.0 _ _ _ number (sym c.byte_or_end.ensures ∙ c.if-byte_or_end-ne-EQUALS.false)
-          (sym c.byte_or_end-in-Is.ensures ∙ c.if-byte_or_end-ne-GREATER.false) c.first_wrong.ensures;
+          link_step c.args.text.now c.args.from c.requires _ _ _ c.in_ok-link.ensures.is c.in_ok-expect_sign.ensures
+          c.in_ok-expect_sign-2.ensures c.first_wrong.ensures;
     }

@@ -1,11 +1,15 @@
--- `term_writing::all_apart` meets its contract: the joints below j are apart.
+-- `term_writing::all_apart` meets its contract: `all` looks at the joints below v.
 -- Assumes nothing.
-use Rattle.std.proofs.Common.{sym, ◌∙◌, arith}
-use Rattle.term_writing.proofs.Answers.{answer_yes, one_below}
+use Rattle.std.proofs.Common.{◌≡◌, refl, rules, tests, arith}
+use Rattle.std.proofs.lemmas.Iterator.{cases_from_all, YieldsList-from_range}
+use Rattle.joints.specs.Layout.{block_form}
+use Rattle.term_writing.proofs.Answers.{all_below}
 use Rattle.term_writing.proofs.all_apart.Goals as goal
 
-pub loop-j-preserved : goal.loop-j-preserved
-loop-j-preserved c = one_below _ c.loop-j.invariant (sym c.class_at.ensures ∙ c.if-class_at-j.false)
-
 pub returns : goal.returns
-returns c = answer_yes (λ j h. c.loop-j.invariant.holds j (omega arith))
+returns c =
+    let class = (block_form c.args.session.now).class in
+    let v = c.args.v in
+    all_below _ v _ _
+    (cases_from_all _ _ _ (λ j. class j ≡ j) (λ j. class j ≡ j → ⊥) c.all.ensures.ran (YieldsList-from_range 0 v v refl (omega arith))
+    (λ x q k. search (rules, tests)) (λ x q k. search (rules, tests)))

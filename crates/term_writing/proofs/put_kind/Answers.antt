@@ -11,4 +11,4 @@ pub returns : goal.returns
 returns c =
     let a = c.args in
     let more : a.s ≢ 1 = omega arith in
-    put_in (colon ∷ decimal a.s) a.at a.to.now more (both_put c.put_byte-next.ensures c.put_number.ensures)
+    put_in (colon ∷ decimal a.s) a.at a.to.now more (both_put c.put-next.ensures c.put_number.ensures)

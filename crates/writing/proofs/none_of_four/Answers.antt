@@ -1,21 +1,30 @@
--- `writing::none_of_four` meets its contract: four bytes that make 2 ^ 32 - 1 are 255 each.
+-- `writing::none_of_four` meets its contract: the four bytes are the four links.
 -- Assumes nothing.
-use mathlib.Core.Path.{◌≡◌, sym, ◌∙◌}
-use borrow.Author.Rules.{rules}
-use borrow.Author.Tests.{eqb-true}
-use Rattle.joints.specs.Layout.{block_form}
-use Rattle.writing.proofs.Putting.{all_ones, none_known}
+use Rattle.std.proofs.Common.{◌≡◌, sym, ap, ◌∙◌, ℕ, List, ◌+◌, ◌-◌, ◌*◌, ◌<◌, take, drop, arith}
+use Rattle.std.proofs.lemmas.List.{get_or-take, get_or-drop}
+use lib.ListN.{get_or}
+use Rattle.joints.specs.Layout.{rows_of, block_form}
+use Rattle.writing.proofs.Putting.{none_known}
 use Rattle.writing.proofs.none_of_four.Goals as goal
+
+-- the i-th of n bytes of the rows is link l + i of joint j
+link_in :
+    (b : List ℕ) (j l n i : ℕ) {rows : List ℕ} → rows ≡ rows_of b → n ≡ 4 → i < 4 →
+    (block_form b).link j (l + i) ≡ get_or (take n (drop (j * 16 + l) rows)) i 0
+link_in b j l n i {rows} e four h =
+    ap (λ (k : ℕ). get_or (rows_of b) k 0) (omega arith)
+    ∙ ap (λ (r : List ℕ). get_or r (j * 16 + l + i) 0) (sym e)
+    ∙ sym (get_or-drop (j * 16 + l) rows i 0)
+    ∙ sym (get_or-take n (drop (j * 16 + l) rows) i 0 (omega arith))
 
 pub returns : goal.returns
 returns c e =
-    let four = c in
-    let three = four in
-    let two = three in
-    let one = two in
-    let s = one in
-    let sum : c.as_one.result ≡ 4294967295 = eqb-true c.as_one.result 4294967295 e in
-    let whole = all_ones one.link_at-a.result two.link_at-b.result three.link_at-c.result four.link_at-d.result
-    (search rules) (search rules) (search rules) (search rules) (sym c.as_one.ensures ∙ sum) in
-    none_known (block_form s.args.block.now) s.args.j s.args.l (sym one.link_at-a.ensures ∙ whole.0)
-    (sym two.link_at-b.ensures ∙ whole.1) (sym three.link_at-c.ensures ∙ whole.2) (sym four.link_at-d.ensures ∙ whole.3)
+    let b = c.args.session.now in
+    let j = c.args.j in
+    let l = c.args.l in
+    let first : l ≡ l + 0 = omega arith in
+    let link = λ (i : ℕ). link_in b j l (j * 16 + l + 4 - (j * 16 + l)) i c.rows.ensures.bytes (omega arith) in
+    let all = c.all_unknown.ensures e in
+    none_known (block_form b) j l
+    (ap ((block_form b).link j) first ∙ link 0 (omega arith) ∙ all.0)
+    (link 1 (omega arith) ∙ all.1) (link 2 (omega arith) ∙ all.2) (link 3 (omega arith) ∙ all.3)

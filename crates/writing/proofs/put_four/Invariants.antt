@@ -9,7 +9,7 @@ use Rattle.writing.proofs.Putting.{Putting, links_left}
 use Rattle.writing.proofs.put_four.Given as goal
 
 abbrev pub invariant-loop-k : goal.invariant-loop-k
-invariant-loop-k l = (l.k ≤ l.l + 4) × (l.k-end ≡ l.l + 4) × Putting (form_bytes (links_from (block_form l.block) l.j l.l 4)) l.at l.initial.to l.to l.end (links_left (block_form l.block) l.j (l.l + 4) l.k)
+invariant-loop-k l = (l.k ≤ l.l + 4) × (l.k-end ≡ l.l + 4) × Putting (form_bytes (links_from (block_form l.session) l.j l.l 4)) l.at l.initial.to l.to l.end (links_left (block_form l.session) l.j (l.l + 4) l.k)
 
 abbrev pub decreases-loop-k : goal.decreases-loop-k
 decreases-loop-k l = l.l + 4 - l.k

@@ -8,7 +8,7 @@ use Rattle.writing.proofs.Putting.{Putting, joints_left}
 use Rattle.writing.proofs.put_joints.Given as goal
 
 abbrev pub invariant-loop-j : goal.invariant-loop-j
-invariant-loop-j l = (l.j ≤ l.v) × Putting (form_bytes (facts_from (block_form l.block) 0 l.v)) l.at l.initial.to l.to l.end (joints_left (block_form l.block) l.v l.j)
+invariant-loop-j l = (l.j ≤ l.v) × Putting (form_bytes (facts_from (block_form l.session) 0 l.v)) l.at l.initial.to l.to l.end (joints_left (block_form l.session) l.v l.j)
 
 abbrev pub decreases-loop-j : goal.decreases-loop-j
 decreases-loop-j l = l.v - l.j

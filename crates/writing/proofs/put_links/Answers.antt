@@ -12,19 +12,18 @@ pub put_some-end-requires : goal.put_some-end-requires
 put_some-end-requires c =
     let s = c in
     let L = c.loop-q in
-    let S = block_form s.args.block.now in
+    let S = block_form s.args.session.now in
     let j = s.args.j in (
       s.requires.0,
-      s.requires.1,
       omega arith,
-      put_room L.invariant.1 (form_bytes (links_from S j (4 * L.q) 4)) (links_left S j 16 (4 * (L.q + 1))) (fours_step S j L.q (omega arith)) s.requires.2,
+      put_room L.invariant.1 (form_bytes (links_from S j (4 * L.q) 4)) (links_left S j 16 (4 * (L.q + 1))) (fours_step S j L.q (omega arith)) s.requires.1,
     )
 
 pub loop-q-preserved : goal.loop-q-preserved
 loop-q-preserved c =
     let a = c.args in
     let L = c.loop-q in
-    let S = block_form a.block.now in (
+    let S = block_form a.session.now in (
       omega arith,
       put_goes_on L.invariant.1 (links_left S a.j 16 (4 * (L.q + 1))) (fours_step S a.j L.q (omega arith)) c.put_some-end.ensures,
     )
@@ -32,4 +31,4 @@ loop-q-preserved c =
 pub returns : goal.returns
 returns c =
     let a = c.args in
-    put_ends c.loop-q.invariant.1 (links_end (block_form a.block.now) a.j (omega arith))
+    put_ends c.loop-q.invariant.1 (links_end (block_form a.session.now) a.j (omega arith))

@@ -1,39 +1,30 @@
 -- `blocks::table::table_fits` meets its contract: the clauses in their order.
 -- Assumes nothing.
 -- n is in range, so that its square has room
-use mathlib.Core.Path.{◌≡◌, ap, ◌∙◌}
-use mathlib.Core.Bool.{Bool, not}
+use mathlib.Core.Path.{ap, ◌∙◌}
 use Prim.Native.Nat.{◌-◌, ◌*◌}
 use native.Mathlib.Omega.{arith}
 use lib.ListN.{length, drop, length-drop}
 use lib.Seq.{take_all}
-use Rattle.replies.specs.Replies.{refuses}
-use Rattle.replies.specs.declared.Reply.{Reply}
+use borrow.Author.Rules.{rules}
+use borrow.Author.Tests.{tests}
+use Rattle.replies.proofs.Laws.{passing}
 use Rattle.runs.specs.Runs.{all_zero}
 use Rattle.blocks.specs.WellFormed.{table_fits}
-use Rattle.fitting.proofs.Checks.{first_fails, first_passes}
 use Rattle.blocks.proofs.table.table_fits.Goals as goal
 
-tested_so : {r x : Reply} {b : Bool} → r ≡ x → b ≡ refuses r → b ≡ refuses x
-tested_so e f = f ∙ ap refuses e
-
-pub returns-then-not-in_range : goal.returns-then-not-in_range
+pub returns-then-not-contains : goal.returns-then-not-contains
 unfolding table_fits
-returns-then-not-in_range c = first_fails _ c.in_range.ensures c.if-not-in_range.true-raw
+returns-then-not-contains c = search (rules, tests)
 
-pub returns-then-is_refusal : goal.returns-then-is_refusal
+pub returns-else-is_ok : goal.returns-else-is_ok
 unfolding table_fits
-returns-then-is_refusal c =
-    let one = c in
-    first_passes _ one.in_range.ensures one.if-not-in_range.false-raw
-    (first_fails _ (ap not (tested_so c.check-reply.ensures c.is_refusal.ensures)) (ap (λ (t : Bool). not (not t)) c.if-is_refusal.true))
+returns-else-is_ok c = let passes = passing c.check.ensures c.is_ok.ensures.value in search (rules, tests)
 
-pub returns : goal.returns
+pub returns-then-is_ok : goal.returns-then-is_ok
 unfolding table_fits
-returns c =
-    let two = c in
-    let one = two in
-    let a = one.args in
-    first_passes _ one.in_range.ensures one.if-not-in_range.false-raw
-    (first_passes _ (ap not (tested_so two.check-reply.ensures two.is_refusal.ensures)) (ap (λ (t : Bool). not (not t)) two.if-is_refusal.false)
-    (c.is_zero.ensures ∙ ap all_zero (take_all (length a.room.now - a.n * a.n) (drop (a.n * a.n) a.room.now) (omega (arith, length-drop (a.n * a.n) a.room.now)))))
+returns-then-is_ok c =
+    let a = c.args in
+    let passes = passing c.check.ensures c.is_ok.ensures.value in
+    let rest = c.is_zero.ensures ∙ ap all_zero (take_all (length a.room.now - a.n * a.n) (drop (a.n * a.n) a.room.now) (omega (arith, length-drop (a.n * a.n) a.room.now))) in
+    search (rules, tests)

@@ -11,8 +11,7 @@ returns c = λ e.
     let kind = same in
     let kinds = kind in
     let joints = kinds in
-    let read = joints in
-    let s = read in
-    let j = read.byte_at-joints.ensures.0 in
-    all_clear s.args.n s.args.packet.now kinds.if-n-gt128.false (rw j at joints.if-joints-gt128.false) j
+    let s = joints in
+    let j = rw s.filled.view_is at s.joint_count-joints.ensures.0 in
+    all_clear s.args.n s.args.filled.now kinds.if-n-gt128.false (rw j at joints.if-joints-gt128.false) j
     kind.limits-kind.ensures same.limits-same.ensures link.limits-link.ensures (c.all_bits.ensures (eqb-true _ _ e))
