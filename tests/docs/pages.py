@@ -1,4 +1,4 @@
-"""Holds the pages, those at the root and those of docs/ but docs/PORT.md, against the project. What is refused, with
+"""Holds the pages, those at the root and those of docs/ but docs/PORT.md and docs/DESIGN-PASS.md, against the project. What is refused, with
 file and line:
 
 1. A path that is not there: in backticks whatever has a '/' or the suffix of a file; elsewhere whatever begins with a
@@ -29,7 +29,7 @@ from project import Project
 
 WORDS = "tests/docs/words.txt"
 PROMISES = "docs/PROMISES.md"
-PORT = "docs/PORT.md"  # tells names that are gone, beside those that stand for them
+OLD_NAMES = {"docs/PORT.md", "docs/DESIGN-PASS.md"}  # these tell names that are gone, beside those that stand for them
 SUFFIXES = {"antt", "rt", "edit", "md", "h", "hpp", "cpp", "py", "txt", "hex"}
 BETWEEN_NAMES = {",", "and", "or", "with", "to", "over", "constructor", "field"}
 BETWEEN_PATHS = {",", "and", "or"}
@@ -295,7 +295,7 @@ def check(root):
     project = Project(root)
     complaints, said, named = [], set(), set()
     allowed = read_words(project, complaints)
-    paths = [path for path in project.files if re.fullmatch(r"[^/]*\.md|docs/.*\.md", path) and path != PORT]
+    paths = [path for path in project.files if re.fullmatch(r"[^/]*\.md|docs/.*\.md", path) and path not in OLD_NAMES]
     for path in paths:
         page = Page(project, path, allowed)
         complaints += [text for line, text in sorted(page.complaints)]
