@@ -23,7 +23,7 @@ pub fn has_size(block: &[u8]) -> bool
     block.len() == BLOCK
 }
 
-// The kind table, n × n bytes, of bytes that are written to behind it, so that no `Block` can hold them.
+// The kind table, n × n bytes, of a block that a clause tells to be well formed: making a `Block` of it would look at all of it again.
 pub fn kind_table(block: &[u8]) -> &[u8]
     requires { (length block.now ≡ block_size) × (kinds_of block.now ≤ 64) }
     ensures { result.now ≡ table_of block.now }

@@ -45,7 +45,7 @@ impl<'a> KindTable<'a> {
     }
 }
 
-// The same of a table that is lent as bytes: it does not ask that n is 2 or more, as a `Table` does.
+// The same of a table that is lent as bytes. docs/DECISIONS.md names it, and it does not ask that n is 2 or more, as a `Table` does.
 pub fn meet(table: &[u8], n: usize, i: usize, j: usize) -> u8
     requires { (n ≤ 64) × (length table.now ≡ n * n) × (i < n) × (j < n) }
     ensures { result ≡ meet_at n table.now i j }

@@ -11,8 +11,7 @@ ghost use Rattle.meaning.specs.Rule.{rule_joint};
 use meaning::{Fact, RigFact, RigJoint, RuleFact, RuleJoint, Tie};
 use std::marker::Model;
 
-// A fact's first byte, its tag. (No enum with TryFrom: here any other number is read as a link's, in screening it is refused, so that the enum
-// would need a fourth case, which is no tag.)
+// A fact's first byte, its tag. Here any other number is read as a link's, and screening refuses it.
 pub const KIND: u8 = 1;
 
 pub const SAME: u8 = 2;
@@ -104,7 +103,7 @@ pub fn byte_at(packet: &[u8], at: usize) -> usize
     usize::from(packet[at])
 }
 
-// The same of bytes that are lent as they are, for callers of which a clause tells that there are six.
+// The same of bytes that are lent as they are: a caller's clause tells that there are six.
 pub fn fact_count(packet: &[u8]) -> usize
     requires { 6 ≤ length packet.now }
     ensures { result ≡ fact_count packet.now }

@@ -1,5 +1,5 @@
 // Runs of bytes: repeated, copied, tested, many bytes at once. All but `is_zero` are one method of std's each: what a caller has of them here is
-// the contract, in the words that its own clauses use. (`repeat`, `same` and `larger` have no caller left in these crates; pages, a theorem and edits name them.)
+// the contract, in the words that its own clauses use. (`repeat`, `same` and `larger` have no caller: docs/DECISIONS.md, the theorem `same_one` and edits name them.)
 #![tactic(auto)]
 
 ghost use Rattle.std.specs.Prelude.{◌≡◌, true, false, max, length, replicate};

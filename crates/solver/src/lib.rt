@@ -18,8 +18,7 @@ use meaning::Fact;
 
 // The unpacked solved form of up to 96 nodes: the rig's joints first, then those of a rule. What is known of the nodes goes by value; the
 // rows, 16 links for each node, are lent beside it. A link not known is the byte 255 and no None: the rows are those of the block.
-// That the form, the rows and the table are ready (`Ready`) stands in each contract: it is a fact about the three together, and no one of them holds
-// the others.
+// Class numbers and kinds are two arrays and not one of pairs, as in the block they are unpacked from.
 #[derive(Clone, Copy)]
 pub struct Solved {
     // The class number of each node, the smallest node of its class; 0 behind the nodes.
@@ -348,7 +347,10 @@ impl Solved {
             NodeFact::Link(x, l, y) => {
                 let c = self.class[y as usize];
                 if put_link(&self.class, rows, x, l, y) {
-                    self.top = self.top.max(c + 1);
+                    // No `max`: where nothing is stored, the next fact need not wait for it.
+                    if self.top <= c {
+                        self.top = c + 1;
+                    }
                     return true;
                 }
                 let end = end_of(&self.class, rows, x, l);

@@ -87,7 +87,7 @@ fn groups(kinds: KindTable<'_>, ij: usize, i: usize, j: usize, k: usize) -> bool
 
 // The first triple that breaks its law, of those without 0 and 1 whose first is below its last; none of these begins with n - 1. Where the laws
 // before it hold no other need be looked at: one with 0 or 1 in it keeps its law, so does one whose first is its last, and one read
-// backwards says the same.
+// backwards says the same. (A kind is its number; the label that leaves the loops is a form of the rules, docs/DECISIONS.md.)
 fn first_triple(kinds: KindTable<'_>) -> Reply
     ensures { result ≡ breach_of kinds.entry.table (triples_meant to_look_at) }
 {

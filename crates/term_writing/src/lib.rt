@@ -209,7 +209,7 @@ fn all_accounted(session: &Session<'_>, seen: &[bool], v: usize) -> bool
     (0..v).all(|j| accounted(session, seen, j))
 }
 
-// The text of the rig from a joint of a well-formed block, put into an array with room for any; its length. None where it is no tree from there.
+// The text of the rig from a joint of a well-formed block, put into an array with room for any; its length.
 fn put_tree(session: &Session<'_>, root: u8, text: &mut [u8]) -> Result<usize, NoTree>
     requires { (block_reply session.now ≡ Ok 0) × (root < joints_of session.now) × (length text.old ≡ text_room) }
     ensures { TreeFound session.now root text.new result }

@@ -19,8 +19,7 @@ fn put_nodes(to: &mut [u8], part: &[u8], old: usize, all: usize, free: u8)
     to[old..all].fill(free);
 }
 
-// The same with class numbers: each free node is a class of its own. Of one function for both, told by a closure what a free node gets, no
-// more than the copying would be shared.
+// The same with class numbers: each free node is a class of its own.
 fn put_classes(to: &mut [u8], part: &[u8], old: usize, all: usize)
     requires { (old ≤ all) × (all ≤ length to.old) × (all ≤ 256) × (old ≤ length part.now) }
     ensures { Nodes part.now old all (λ j. j) to.old to.new }

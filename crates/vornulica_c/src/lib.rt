@@ -1,5 +1,5 @@
 // The library for a C or C++ host: what such a host links. Each export is the call of vornulica of its name, with its clauses, and an answer
-// packed into one number. Nothing is asked of what the host lends.
+// packed into one number. Nothing is asked of what the host lends. (Each call stands twice, for a crate is a library or a static library for C.)
 #![tactic(auto)]
 
 ghost use Rattle.std.specs.Prelude.{◌≡◌};

@@ -9,15 +9,26 @@ use Rattle.solver.proofs.OneFact.{kind_takes, link_takes, known_takes, named_put
 use borrow.Author.Rules.{rules}
 use Rattle.solver.proofs.Solved.take_plainly.Goals as goal
 
-pub returns-then-put_link : goal.returns-then-put_link
-returns-then-put_link c =
+pub returns-then-self-c : goal.returns-then-self-c
+returns-then-self-c c =
     let r = rw c.in-Link.is at c.requires.lent in
     let d = c.requires.ready.0 in
     let k : Lent c.args.self.now.class c.args.self.now.kind c.args.rows.now = record { class_size = search rules; kind_size = search rules; rows_sized = search rules } in
     let m = rw c.if-put_link.true at c.put_link.ensures in
-    let a = c.max-self.ensures in (
+    let test = c.if-self-c.true in (
       record { taken = λ _. rw c.in-Link.is (link_takes d k r.0 r.1 r.2 m); kept = λ e. absurd (true≢false e) },
-      named_put d k r.0 r.1 m (omega (arith, a)) (omega (arith, a)) c.requires.ready.1,
+      named_put d k r.0 r.1 m (omega (arith, test)) (omega (arith, test)) c.requires.ready.1,
+    )
+
+pub returns-else-self-c : goal.returns-else-self-c
+returns-else-self-c c =
+    let r = rw c.in-Link.is at c.requires.lent in
+    let d = c.requires.ready.0 in
+    let k : Lent c.args.self.now.class c.args.self.now.kind c.args.rows.now = record { class_size = search rules; kind_size = search rules; rows_sized = search rules } in
+    let m = rw c.if-put_link.true at c.put_link.ensures in
+    let test = c.if-self-c.false in (
+      record { taken = λ _. rw c.in-Link.is (link_takes d k r.0 r.1 r.2 m); kept = λ e. absurd (true≢false e) },
+      named_put d k r.0 r.1 m (omega (arith, test)) (omega (arith, test)) c.requires.ready.1,
     )
 
 pub returns-in-Kind : goal.returns-in-Kind
