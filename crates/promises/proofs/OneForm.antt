@@ -1,16 +1,19 @@
--- One result for the inner functions whose contracts are no equations: the test of two runs, the unpacked form, and what becomes of a form
--- with a fact. Both forms are fixed at every node, and with them the bytes of the code's arrays.
+-- One result for the inner functions whose contracts are no equations: the test of two runs, a block made of lent bytes, the unpacked form, and
+-- what becomes of a form with a fact. Both forms are fixed at every node, and with them the bytes of the code's arrays.
 -- Assumes nothing.
 use mathlib.Core.Path.{◌≡◌, refl, sym, ap, ◌∙◌}
 use mathlib.Core.Logic.{by_cases}
-use mathlib.Core.Bool.{Bool, true, false}
+use mathlib.Core.Bool.{Bool, true, false, true≢false, false≢true}
 use mathlib.Core.List.{List, [], ◌∷◌, ◌++◌}
 use Prim.Native.Nat.{ℕ, ◌+◌, ◌*◌, ◌/◌, ◌%◌, ◌<◌, ◌≤◌}
 use native.Mathlib.Omega.{arith}
 use native.Mathlib.Decide.{dec_lt}
 use native.Mathlib.Nat.{div-add-mod', mod-lt}
 use lib.ListN.{length, take, drop, take-append-drop}
-use Rattle.std.specs.Prelude.{Result, Ok, Err}
+use Rattle.std.specs.Prelude.{Result, Ok, Err, MatchResult}
+use Rattle.replies.specs.Replies.{Reply, refuses}
+use Rattle.replies.specs.declared.Refusal.{Refusal}
+use Rattle.blocks.specs.WellFormed.{block_reply}
 use lib.Seq.{ext_get_or, take-take}
 use Rattle.kinds.specs.Kinds.{meet_at}
 use Rattle.kinds.specs.Laws.{Lawful}
@@ -33,6 +36,20 @@ same_one true true x y = refl
 same_one true false x y = absurd (y.1 refl (x.0 refl))
 same_one false true x y = absurd (x.1 refl (y.0 refl))
 same_one false false x y = refl
+
+-- what the making of a `Block` of the bytes b allows
+abbrev pub BlockOf : List ℕ → Result (List ℕ) Refusal → Type 0
+BlockOf b r = MatchResult r (λ block. (block ≡ b) × (block_reply b ≡ Ok 0)) (λ refusal. block_reply b ≡ Err refusal)
+
+abbrev refusal_in : Refusal → Reply → Refusal
+refusal_in other (Ok t) = other
+refusal_in other (Err r) = r
+
+pub block_one : (b : List ℕ) (r s : Result (List ℕ) Refusal) → BlockOf b r → BlockOf b s → r ≡ s
+block_one b (Ok x) (Ok y) p q = ap (λ (block : List ℕ). Ok block) (p.0 ∙ sym q.0)
+block_one b (Ok x) (Err e) p q = absurd (false≢true (ap refuses (sym p.1 ∙ q)))
+block_one b (Err d) (Ok y) p q = absurd (true≢false (ap refuses (sym p ∙ q.1)))
+block_one b (Err d) (Err e) p q = ap (λ (r : Refusal). Err r) (ap (refusal_in d) (sym p ∙ q))
 
 -- Two unpacked forms that are one form are the same bytes, in the nodes and in the rows. The sizes are those of the arrays' type and of the
 -- rows lent.
