@@ -5,7 +5,7 @@
 ghost use Rattle.std.specs.Prelude.{◌≡◌, true, false, ℕ, ◌+◌, ◌≤◌, ◌<◌, ◌^◌, List, length, take, drop, IfOk, OnOk, OnErr, IfSome, MatchResult};
 ghost use Rattle.std.specs.Io.KnownBytes.{Appends};
 ghost use Rattle.blocks.specs.Layout.{block_size};
-ghost use Rattle.lines.specs.Text.{line, text_of};
+ghost use Rattle.lines.specs.Text.{line, longest_word, text_of};
 ghost use Rattle.rigcheck.specs.declared.Step.TheVariants.{Packet};
 ghost use Rattle.rigcheck.specs.Lines.{is_facts, Answered, longest, step_of, goes_on, Turn, Opening};
 ghost use Rattle.rigcheck.specs.Input.{said, ReadUpTo, TurnOn, Packets, Run};
@@ -73,7 +73,7 @@ fn is_facts(packet: &[u8]) -> bool
 }
 
 // Takes a packet of facts, asks any other. Its line.
-fn answered(block: &mut [u8], packet: &[u8]) -> Line<'static>
+fn answered(block: &mut [u8], packet: &[u8]) -> Line
     ensures { Answered block.old packet.now (text_of result) block.new }
 {
     if is_facts(packet) {
@@ -85,7 +85,8 @@ fn answered(block: &mut [u8], packet: &[u8]) -> Line<'static>
 }
 
 // The line of a packet that cannot be read: its length is refused.
-fn refused(word: &[u8]) -> Line<'_>
+fn refused(word: &[u8]) -> Line
+    requires { length word.now ≤ longest_word }
     ensures { text_of result ≡ line word.now 5 0 0 }
 {
     Line::of_reply(word, Err(Refusal(Cause::BadLength, 0)))
@@ -97,7 +98,7 @@ fn told_packet(
     packet: &[u8; LONGEST_PACKET],
     size: usize,
     rest: usize,
-) -> Line<'static>
+) -> Line
     requires { size ≤ longest }
     ensures { Turn block.old packet.now (Packet size) rest (text_of result) block.new }
 {
@@ -114,7 +115,7 @@ fn told(
     packet: &[u8; LONGEST_PACKET],
     step: Step,
     rest: usize,
-) -> Option<Line<'static>>
+) -> Option<Line>
     requires { (size : ℕ) → step ≡ Packet size → size ≤ longest }
     ensures { Turn block.old packet.now step rest (said result) block.new }
 {
@@ -128,7 +129,7 @@ fn told(
 
 // Opens a session of V joints with the house kinds. A block that has its size leaves V alone to be refused. The line of `open`; that of a
 // refusal, which ends the run, is the error.
-fn open(joints: u8, block: &mut [u8]) -> Result<Line<'static>, Line<'static>>
+fn open(joints: u8, block: &mut [u8]) -> Result<Line, Line>
     requires { length block.old ≡ block_size }
     ensures { MatchResult result (λ line. Opening joints block.old (text_of line) false block.new)
         (λ line. Opening joints block.old (text_of line) true block.new) }
@@ -142,8 +143,8 @@ fn open(joints: u8, block: &mut [u8]) -> Result<Line<'static>, Line<'static>>
 }
 
 // Writes the text of a line; the program writes nowhere else.
-fn print<W: Write>(out: &mut W, line: Line<'_>) -> io::Result<()>
-    ensures { OnOk result (Appends (W.contents out.old) (W.contents out.new) (text_of line.entry)) }
+fn print<W: Write>(out: &mut W, line: Line) -> io::Result<()>
+    ensures { OnOk result (Appends (W.contents out.old) (W.contents out.new) (text_of line)) }
 {
     line.write(out)
 }
