@@ -2,7 +2,6 @@
 -- Assumes nothing.
 use mathlib.Core.Path.{◌≡◌, refl, sym, ap, ap₂, ◌∙◌}
 use mathlib.Core.Logic.{inl, inr, by_cases}
-use Rattle.std.proofs.Common.{nat_eq}
 use mathlib.Core.Bool.{Bool, true, false, true≢false, false≢true}
 use mathlib.Core.List.{List, [], map}
 use Prim.Native.Nat.{ℕ, zero, suc, ◌+◌, ◌*◌, ◌/◌, ◌%◌, ◌<◌, ◌≤◌}
@@ -11,8 +10,6 @@ use native.Mathlib.Decide.{dec_lt}
 use native.Mathlib.Nat.{not-suc-le-zero, div-add-mod', mod-lt}
 use lib.ListN.{get_or, length, take, drop, take-append-drop}
 use Rattle.std.specs.Prelude.{Result, Ok, Err, is_ok, OnOk}
-use lib.Pointwise.{pointwise}
-use Rattle.std.specs.Cmp.Lexicographic.{same_text, other_text}
 use lib.Seq.{ext_get_or, get_or-take, length-take-le}
 use Rattle.replies.specs.Replies.{refuses, Reply}
 use Rattle.replies.proofs.Laws.{first_none, first_here, first_next, first_passed}
@@ -159,10 +156,9 @@ module _ (xs ys : List ℕ) (count : ℕ) (a : count ≤ length xs) (b : count �
       ext_get_or 0 (take count xs) (take count ys) (n ∙ sym (length-take-le count ys b))
       (λ i h. let k : i < count = omega (arith, n) in get_or-take count xs i 0 k ∙ f i k ∙ sym (get_or-take count ys i 0 k))
 
-  -- two slices compared
-  pub front_told : (r : Bool) → r ≡ pointwise nat_eq (take count xs) (take count ys) → Tells r (SameFront xs ys count)
-  front_told true e = yes (fronts_same (same_text _ _ e))
-  front_told false e = no (λ f. other_text _ _ e (same_fronts f))
+  -- two runs compared
+  pub front_told : {r : Bool} → Tells r (take count xs ≡ take count ys) → Tells r (SameFront xs ys count)
+  front_told = answers_same fronts_same same_fronts
 
 -- the rig's part of a form, list by list; a row of links is 16 places
 module _ (v : ℕ) (b class kind rows : List ℕ) where

@@ -130,9 +130,9 @@ fn same_rig(session: &Session<'_>, end: Solved, rows: &Rows, v: usize) -> bool
     ensures { (result ≡ true → Settled v 0 (block_form session.now) (form_of end rows.now))
         × (result ≡ false → Settled v 0 (block_form session.now) (form_of end rows.now) → ⊥) }
 {
-    end.class[..v] == session.classes()[..v]
-        && end.kind[..v] == session.kinds()[..v]
-        && rows[..16 * v] == session.rows()[..16 * v]
+    runs::same(&end.class[..v], &session.classes()[..v])
+        && runs::same(&end.kind[..v], &session.kinds()[..v])
+        && runs::same(&rows[..16 * v], &session.rows()[..16 * v])
 }
 
 // Whether each of the k rule joints is one with a rig joint: its class is numbered by one of the first v nodes.

@@ -26,6 +26,6 @@ pub fn write_table(room: &mut [u8], table: &[u8])
     requires { (length room.old ≡ table_room) × (length table.now ≤ table_room) }
     ensures { room.new ≡ room_with table.now }
 {
-    room[..table.len()].copy_from_slice(table);
-    room[table.len()..].fill(0);
+    runs::copy(&mut room[..table.len()], table);
+    runs::repeat(&mut room[table.len()..], 0);
 }

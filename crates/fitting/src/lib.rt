@@ -143,7 +143,7 @@ fn highest(part: &[u8], more: u8) -> u8
 {
     let mut most = 0u8;
     for x in part {
-        most = most.max(x.wrapping_add(more));
+        most = runs::larger(most, x.wrapping_add(more));
     }
     most
 }

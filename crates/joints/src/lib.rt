@@ -110,8 +110,8 @@ fn fill_front(part: &mut [u8], count: usize, x: u8)
     requires { count ≤ length part.old }
     ensures { part.new ≡ replicate count x ++ replicate (length part.old - count) 0 }
 {
-    part[..count].fill(x);
-    part[count..].fill(0);
+    runs::repeat(&mut part[..count], x);
+    runs::repeat(&mut part[count..], 0);
 }
 
 // Each joint is a class of its own.

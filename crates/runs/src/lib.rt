@@ -1,9 +1,9 @@
 // Runs of bytes: repeated, copied, tested, many bytes at once. All but `is_zero` are one method of std's each: what a caller has of them here is
-// the contract, in the words that its own clauses use. (`repeat`, `same` and `larger` have no caller: docs/DECISIONS.md, the theorem `same_one` and edits name them.)
+// the contract, in the words that its own clauses use.
 #![tactic(auto)]
 
 ghost use Rattle.std.specs.Prelude.{◌≡◌, true, false, max, length, replicate};
-ghost use Rattle.runs.specs.Runs.{all_zero};
+ghost use Rattle.runs.specs.Runs.{all_zero, within};
 
 // x at every place.
 pub fn repeat(to: &mut [u8], x: u8)
@@ -12,12 +12,15 @@ pub fn repeat(to: &mut [u8], x: u8)
     to.fill(x);
 }
 
-// The bytes of `from`, which has as many.
+// The bytes of `from`, which has as many. A loop, for `copy_from_slice` of a length that is not known becomes a call of C's memmove, which a host
+// without a C library would have to bring.
 pub fn copy(to: &mut [u8], from: &[u8])
     requires { length to.old ≡ length from.now }
     ensures { to.new ≡ from.now }
 {
-    to.copy_from_slice(from);
+    for (i, x) in to.iter_mut().enumerate() {
+        *x = from[i];
+    }
 }
 
 // Whether every byte is zero. All are looked at, and the answer is given once, behind them.
@@ -40,4 +43,11 @@ pub fn larger(a: u8, b: u8) -> u8
     ensures { result ≡ max a b }
 {
     a.max(b)
+}
+
+// Whether x is from low to high.
+pub fn in_range(x: usize, low: usize, high: usize) -> bool
+    ensures { result ≡ within low high x }
+{
+    (low..=high).contains(&x)
 }

@@ -24,7 +24,7 @@ impl Range {
     fn has(self, x: usize) -> bool
         ensures { result ≡ within self.from self.to x }
     {
-        (self.from..=self.to).contains(&x)
+        runs::in_range(x, self.from, self.to)
     }
 }
 

@@ -103,7 +103,7 @@ sooner d (Before.by_third e q h) = Before.by_first (omega arith)
 pub kinds_entries : (n : ℕ) (table : List ℕ) → AllKinds n table → first_breach n table (entries n) ≡ Ok 0
 kinds_entries n table z = kept_passes n table (entries n) ((kept_entries n table).1 z)
 
-entries_kinds : (n : ℕ) (table : List ℕ) → first_breach n table (entries n) ≡ Ok 0 → AllKinds n table
+pub entries_kinds : (n : ℕ) (table : List ℕ) → first_breach n table (entries n) ≡ Ok 0 → AllKinds n table
 entries_kinds n table e = (kept_entries n table).0 (passes_kept n table (entries n) (ap refuses e))
 
 -- the laws before the triples, read off the check

@@ -2,7 +2,7 @@
 #![tactic(auto)]
 
 ghost use Rattle.replies.specs.Replies.{Reply, refusal};
-ghost use Rattle.std.specs.Prelude.{◌≡◌, map, ◌+◌, ◌*◌, ◌<◌, ◌≤◌, length, Ok};
+ghost use Rattle.std.specs.Prelude.{◌≡◌, map, ◌+◌, ◌*◌, ◌<◌, ◌≤◌, length, Ok, MatchResult};
 ghost use Rattle.kinds.specs.Tables.{meet_of};
 ghost use Rattle.meaning.specs.Picture.{rename};
 ghost use Rattle.meaning.specs.Form.{rig_joint};
@@ -13,6 +13,8 @@ ghost use Rattle.meaning.specs.Decoding.{decoded};
 ghost use Rattle.screening.specs.Screening.{packet_reply, facts_wanted};
 ghost use Rattle.replies.specs.declared.Cause.{Cause};
 ghost use Rattle.solver.specs.Unpacked.{form_of, node_fact, Named, Ready, Folded};
+ghost use Rattle.joints.specs.Storing.{with_form};
+ghost use Rattle.joints.specs.Layout.{session_size};
 ghost use Rattle.taking.specs.Take.{take_refusal, Take};
 ghost use Rattle.taking.specs.Solve.{Solves};
 
@@ -64,6 +66,16 @@ fn refusal(block: &[u8], packet: &[u8]) -> Reply
     screening::facts_reply(packet, block.kind_count(), block.joint_count())
 }
 
+// The form stored in the block, where all facts were taken; where they clash, nothing is.
+fn store(block: &mut [u8], class: &[u8], kind: &[u8], rows: &Rows, taken: Result<(), usize>)
+    requires { (session_size ≤ length block.old) × (64 ≤ length class.now) × (64 ≤ length kind.now) }
+    ensures { MatchResult taken (λ _. block.new ≡ with_form block.old class.now kind.now rows.now) (λ _. block.new ≡ block.old) }
+{
+    if taken.is_ok() {
+        joints::store(block, class, kind, rows);
+    }
+}
+
 // The packet's facts taken with those of the block, and the form stored in it. The number of joins; or where they clash, how many were taken
 // before the one that does, and nothing is stored.
 fn solve(block: &mut [u8], packet: &[u8]) -> Result<u32, usize>
@@ -78,9 +90,10 @@ fn solve(block: &mut [u8], packet: &[u8]) -> Result<u32, usize>
     let mut form = unpacking::unpack(&mut rows, &session, v, 0);
     let entries = blocks::kind_table(block);
     let table = Table { entries, n };
-    with_facts(&mut form, &mut rows, table, v, packet)?;
+    let taken = with_facts(&mut form, &mut rows, table, v, packet);
+    store(block, &form.class, &form.kind, &rows, taken);
+    taken?;
     let joins = before - solver::classes_in(&form.class, v);
-    joints::store(block, &form.class, &form.kind, &rows);
     Ok(joins as u32)
 }
 

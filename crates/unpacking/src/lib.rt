@@ -15,8 +15,8 @@ fn put_nodes(to: &mut [u8], part: &[u8], old: usize, all: usize, free: u8)
     requires { (old ≤ all) × (all ≤ length to.old) × (old ≤ length part.now) }
     ensures { Nodes part.now old all (λ _. free) to.old to.new }
 {
-    to[..old].copy_from_slice(&part[..old]);
-    to[old..all].fill(free);
+    runs::copy(&mut to[..old], &part[..old]);
+    runs::repeat(&mut to[old..all], free);
 }
 
 // The same with class numbers: each free node is a class of its own.
