@@ -95,7 +95,7 @@ module _ (b : Bool) (c : Cause) (p : ℕ) where
     pub test_passed : refuses (first_refusal (unless b c p ∷ rs) last) ≡ false → (b ≡ true) × (refuses (first_refusal rs last) ≡ false)
     test_passed e = let q = first_passed (unless b c p) rs last e in (unless_passed q.0, q.1)
 
--- a call that goes on past a list of refusals is done with what comes last, and none of the list refusal
+-- a call that goes on past a list of refusals is done with what comes last, and none of the list refused
 module _ (a b : Reply) (last : Reply) where
   pub two_passed : refuses (first_refusal (a ∷ b ∷ []) last) ≡ false → (refuses a ≡ false) × (refuses b ≡ false)
   two_passed e = let q = first_passed a (b ∷ []) last e in (q.0, (first_passed b [] last q.1).0)
