@@ -7,7 +7,7 @@ use Rattle.runs.specs.Runs.{within}
 use Rattle.scripts.specs.Rooms.{byte_at, with_byte, inside_of}
 use Rattle.scripts.specs.declared.Bytes.{Bytes}
 use Rattle.scripts.specs.declared.Part.{Part}
-use Rattle.scripts.specs.declared.Part.TheVariants.{InText, InComment, AtLetter, InBytes, AtSecondDigit, Called}
+use Rattle.scripts.specs.declared.Part.TheVariants.{InText, InComment, AtLetter, InBytes, AtSecondDigit, Called, Other}
 use Rattle.scripts.specs.declared.Script.{Script}
 
 -- the signs of a script, and the first digit and the first letter of hex numbers
@@ -35,6 +35,11 @@ zero_digit = 48
 abbrev pub letter_a : ℕ
 letter_a = 65
 
+-- the part that a number stands for; behind the first digit of a byte, that digit is 0
+abbrev pub part_of : ℕ → Part
+part_of n =
+    cond (eqb n 0) InText (cond (eqb n 1) InComment (cond (eqb n 2) AtLetter (cond (eqb n 3) InBytes (cond (eqb n 4) (AtSecondDigit 0) (cond (eqb n 5) Called (Other n))))))
+
 abbrev pub no_bytes : Bytes
 no_bytes = record { room = replicate 5253 0; size = 0 }
 
@@ -53,6 +58,7 @@ is_text AtLetter c = false
 is_text InBytes c = false
 is_text (AtSecondDigit first) c = false
 is_text Called c = is_plain c
+is_text (Other n) c = false
 
 -- where one is behind a letter outside of calls and comments
 abbrev pub begun_after : ℕ → Part
@@ -66,6 +72,7 @@ text_after AtLetter c = begun_after c
 text_after InBytes c = begun_after c
 text_after (AtSecondDigit first) c = begun_after c
 text_after Called c = begun_after c
+text_after (Other n) c = begun_after c
 
 abbrev pub digit_of : ℕ → ℕ
 digit_of c = cond (within zero_digit 57 c) (c - zero_digit) (cond (within letter_a 70 c) (c - letter_a + 10) 0)
@@ -108,6 +115,7 @@ after_part (AtSecondDigit first) script c = record { part = InBytes; letter = sc
 after_part InText script c = record { part = text_after InText c; letter = script.letter; bytes = script.bytes }
 after_part InComment script c = record { part = text_after InComment c; letter = script.letter; bytes = script.bytes }
 after_part Called script c = record { part = text_after Called c; letter = script.letter; bytes = script.bytes }
+after_part (Other n) script c = record { part = text_after (Other n) c; letter = script.letter; bytes = script.bytes }
 
 abbrev pub script_after : Script → ℕ → Script
 script_after script c = after_part script.part script c

@@ -9,9 +9,10 @@
 ghost use Rattle.std.specs.Prelude.{◌≡◌, ℕ, ◌-◌, ◌*◌, ◌<◌, ◌⊎◌, List, true, Ok, IfOk, OnOk, OnErr, IfSome};
 ghost use Rattle.std.specs.List.{FoldsTo};
 ghost use Rattle.scripts.specs.Rooms.{byte_at, with_byte, number_at, inside_of, put_bytes, CannotPut, flat_entry, flat_table, table_after, summed, sum_of};
+ghost use Rattle.scripts.specs.declared.Part.{Part};
 ghost use Rattle.scripts.specs.declared.Part.TheVariants.{InBytes, AtSecondDigit};
 ghost use Rattle.scripts.specs.Scripts.{NoDigit, CannotRepeat, IsFault, letters_of, NextLetter, Turn};
-ghost use Rattle.scripts.specs.Scripts.{no_bytes, begun_script, is_plain, is_text, text_after, digit_of, with_digits, repeated_facts, with_repeats, call_after, script_after};
+ghost use Rattle.scripts.specs.Scripts.{part_of, no_bytes, begun_script, is_plain, is_text, text_after, digit_of, with_digits, repeated_facts, with_repeats, call_after, script_after};
 
 use std::io;
 use std::io::{Read, Write};
@@ -31,6 +32,27 @@ pub enum Part {
     AtSecondDigit(u8),
     // Behind the call.
     Called,
+    // At a number that stands for no part: nothing is text there, and a letter is read as in the text.
+    Other(u8),
+}
+
+// A part by its number. Behind the first digit of a byte, 4, that digit is 0; another is given by `AtSecondDigit` itself.
+impl From<u8> for Part {
+    ghost from_gives = { λ n part. part ≡ part_of n };
+
+    fn from(number: u8) -> Part
+        ensures { result ≡ part_of number }
+    {
+        match number {
+            0 => Part::InText,
+            1 => Part::InComment,
+            2 => Part::AtLetter,
+            3 => Part::InBytes,
+            4 => Part::AtSecondDigit(0),
+            5 => Part::Called,
+            _ => Part::Other(number),
+        }
+    }
 }
 
 // Room for a table, an output or the bytes of a call, or for a block with one byte and a number behind it.
@@ -164,11 +186,11 @@ fn is_plain(c: u8) -> bool
     c != b'#' && c != b'['
 }
 
-// Whether a letter is one of the text, which is written.
-pub fn is_text(part: Part, c: u8) -> bool
-    ensures { result ≡ is_text part c }
+// Whether a letter is one of the text, which is written. The part is given as such or by its number.
+pub fn is_text<P: Into<Part>>(part: P, c: u8) -> bool
+    ensures { (p : Part) × (P.converts part p) × (result ≡ is_text p c) }
 {
-    match part {
+    match part.into() {
         Part::InText | Part::Called => is_plain(c),
         _ => false,
     }
