@@ -19,7 +19,10 @@ use kinds::{KindTable, Table};
 fn all_kinds(table: Table<'_>) -> bool
     ensures { result ≡ true → AllKinds table.entry.n table.entry.entries.now }
 {
-    let most = table.entries.iter().fold(0, |most, &x| runs::larger(most, x));
+    let most = table
+        .entries
+        .iter()
+        .fold(0, |most, &x| runs::larger(most, x));
     usize::from(most) < table.n
 }
 

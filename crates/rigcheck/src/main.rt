@@ -93,12 +93,7 @@ fn refused(word: &[u8]) -> Line
 }
 
 // Answers a packet of which `rest` bytes could be read behind L, where that is all of them. Its line.
-fn told_packet(
-    block: &mut [u8],
-    packet: &[u8; LONGEST_PACKET],
-    size: usize,
-    rest: usize,
-) -> Line
+fn told_packet(block: &mut [u8], packet: &[u8; LONGEST_PACKET], size: usize, rest: usize) -> Line
     requires { size ≤ longest }
     ensures { Turn block.old packet.now (Packet size) rest (text_of result) block.new }
 {
@@ -110,12 +105,7 @@ fn told_packet(
 }
 
 // One turn of the run, once its bytes are read. Its line, if it has one.
-fn told(
-    block: &mut [u8],
-    packet: &[u8; LONGEST_PACKET],
-    step: Step,
-    rest: usize,
-) -> Option<Line>
+fn told(block: &mut [u8], packet: &[u8; LONGEST_PACKET], step: Step, rest: usize) -> Option<Line>
     requires { (size : ℕ) → step ≡ Packet size → size ≤ longest }
     ensures { Turn block.old packet.now step rest (said result) block.new }
 {
