@@ -16,6 +16,6 @@ pub fn put_out(out: &mut [u8], bytes: &[u8]) -> Reply
     if out.len() < size {
         return Err(Refusal(Cause::ShortOutput, 0));
     }
-    out[..size].copy_from_slice(bytes);
+    runs::copy(&mut out[..size], bytes);
     Ok(size as u32)
 }

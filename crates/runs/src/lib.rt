@@ -1,5 +1,5 @@
-// Runs of bytes: repeated, copied, tested, many bytes at once. All but `is_zero` are one method of std's each: what a caller has of them here is
-// the contract, in the words that its own clauses use.
+// Runs of bytes: repeated, copied, tested, many bytes at once. All but `copy` and `is_zero` are one method of std's each: what a caller has of them
+// here is the contract, in the words that its own clauses use.
 #![tactic(auto)]
 
 ghost use Rattle.std.specs.Prelude.{◌≡◌, true, false, max, length, replicate};
@@ -12,8 +12,8 @@ pub fn repeat(to: &mut [u8], x: u8)
     to.fill(x);
 }
 
-// The bytes of `from`, which has as many. A loop, for `copy_from_slice` of a length that is not known becomes a call of C's memmove, which a host
-// without a C library would have to bring.
+// The bytes of `from`, which has as many. A loop by index: `copy_from_slice` may become a call of C's memmove, as where a table is put into a block,
+// and a host without a C library would have to bring that.
 pub fn copy(to: &mut [u8], from: &[u8])
     requires { length to.old ≡ length from.now }
     ensures { to.new ≡ from.now }

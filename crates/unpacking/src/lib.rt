@@ -24,7 +24,7 @@ fn put_classes(to: &mut [u8], part: &[u8], old: usize, all: usize)
     requires { (old ≤ all) × (all ≤ length to.old) × (all ≤ 256) × (old ≤ length part.now) }
     ensures { Nodes part.now old all (λ j. j) to.old to.new }
 {
-    to[..old].copy_from_slice(&part[..old]);
+    runs::copy(&mut to[..old], &part[..old]);
     for j in old..all {
         to[j] = j as u8;
     }

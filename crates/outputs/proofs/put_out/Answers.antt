@@ -14,5 +14,5 @@ pub returns : goal.returns
 returns c =
     let a = c.args in (
       sym (has_room _ _ c.if-out-size.false),
-      ap (λ (x : List ℕ). x ++ drop (length a.bytes.now) a.out.now) c.copy_from_slice.ensures.after ∙ all_put _ _ c.if-out-size.false,
+      ap (λ (x : List ℕ). x ++ drop (length a.bytes.now) a.out.now) c.copy.ensures ∙ all_put _ _ c.if-out-size.false,
     )
