@@ -70,6 +70,9 @@ module _ (l : Line) (x : ℕ) {r : Line} {d : ℕ} where
 pub size_of : (l : Line) (bytes : List ℕ) {r : Line} → r ≡ put l bytes → r.size ≡ l.size + length bytes
 size_of l bytes e = ap (λ (m : Line). m.size) e
 
+pub word_fits : (word : List ℕ) {none said : Line} → length word ≤ longest_word → none ≡ holding [] → said ≡ put none word → said.size ≤ longest_word
+word_fits word {none} h e₀ e₁ = omega (arith, h, ap (λ (m : Line). m.size) e₀, size_of none word e₁)
+
 pub number_fits : (l : Line) (x : ℕ) {r : Line} → r ≡ put l (blank ∷ decimal x) → r.size ≤ l.size + (1 + longest_number)
 number_fits l x e = omega (arith, size_of l (blank ∷ decimal x) e, length_digits longest_number x)
 

@@ -1,43 +1,32 @@
 -- `lines::Line::of` meets its contract: the parts are put one behind the other, and at most 6 + 3 × 11 + 1 = 40 bytes are.
 -- Assumes nothing.
-use mathlib.Core.Path.{ap}
-use Prim.Native.Nat.{◌≤◌}
 use native.Mathlib.Omega.{arith}
-use Rattle.lines.specs.declared.Line.{Line}
-use Rattle.lines.proofs.Puts.{size_of, number_fits, all_parts, line_fits, held}
+use Rattle.lines.proofs.Puts.{word_fits, number_fits, all_parts, line_fits, held}
 use Rattle.lines.proofs.Line.of.Goals as goal
 
 pub with_number-requires-2 : goal.with_number-requires-2
 with_number-requires-2 c =
-    let none_said : c.empty.result.size ≤ 0 = omega (arith, ap (λ (l : Line). l.size) c.empty.ensures) in
-    let word_said : c.with_word-said.result.size ≤ 6 = let s = c in
-    omega (arith, s.requires, none_said, size_of c.empty.result s.args.word.now c.with_word-said.ensures) in
-    let number_said : c.with_number.result.size ≤ 17 = let s = c in
-    omega (arith, word_said, number_fits c.with_word-said.result s.args.number c.with_number.ensures) in
-    omega (arith, number_said)
+    let s = c in
+    let word_said = word_fits s.args.word.now s.requires c.empty.ensures c.with_word-said.ensures in
+    omega (arith, word_said, number_fits c.with_word-said.result s.args.number c.with_number.ensures)
 
 pub with_number-told-requires : goal.with_number-told-requires
 with_number-told-requires c =
-    let none_said : c.empty.result.size ≤ 0 = omega (arith, ap (λ (l : Line). l.size) c.empty.ensures) in
-    let word_said : c.with_word-said.result.size ≤ 6 = let s = c in
-    omega (arith, s.requires, none_said, size_of c.empty.result s.args.word.now c.with_word-said.ensures) in
-    let number_said : c.with_number.result.size ≤ 17 = let s = c in
-    omega (arith, word_said, number_fits c.with_word-said.result s.args.number c.with_number.ensures) in
-    let place_said : c.with_number-2.result.size ≤ 28 = let s = c in
-    omega (arith, number_said, number_fits c.with_number.result s.args.place c.with_number-2.ensures) in
-    omega (arith, place_said)
+    let s = c in
+    let word_said = word_fits s.args.word.now s.requires c.empty.ensures c.with_word-said.ensures in
+    omega (arith, word_said, number_fits c.with_word-said.result s.args.number c.with_number.ensures, number_fits c.with_number.result s.args.place c.with_number-2.ensures)
 
 pub with_byte-requires : goal.with_byte-requires
 with_byte-requires c =
-    let none_said : c.empty.result.size ≤ 0 = omega (arith, ap (λ (l : Line). l.size) c.empty.ensures) in
-    let word_said : c.with_word-said.result.size ≤ 6 = let s = c in
-    omega (arith, s.requires, none_said, size_of c.empty.result s.args.word.now c.with_word-said.ensures) in
-    let number_said : c.with_number.result.size ≤ 17 = let s = c in
-    omega (arith, word_said, number_fits c.with_word-said.result s.args.number c.with_number.ensures) in
-    let place_said : c.with_number-2.result.size ≤ 28 = let s = c in
-    omega (arith, number_said, number_fits c.with_number.result s.args.place c.with_number-2.ensures) in
     let s = c in
-    omega (arith, place_said, number_fits c.with_number-2.result s.args.third c.with_number-told.ensures)
+    let word_said = word_fits s.args.word.now s.requires c.empty.ensures c.with_word-said.ensures in
+    omega (
+      arith,
+      word_said,
+      number_fits c.with_word-said.result s.args.number c.with_number.ensures,
+      number_fits c.with_number.result s.args.place c.with_number-2.ensures,
+      number_fits c.with_number-2.result s.args.third c.with_number-told.ensures,
+    )
 
 pub returns-clause-bytes : goal.returns-clause-bytes
 returns-clause-bytes c =
